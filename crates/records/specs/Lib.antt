@@ -1,1 +1,3 @@
 pub mod Range
+pub mod Held
+pub mod Outcome

@@ -23,6 +23,12 @@ impl RecordNumber {
         })
     }
 
+    pub fn first() -> RecordNumber
+        ensures { λ r. ⌜ r .value ≡ 1 ⌝ }
+    {
+        RecordNumber { value: 1 }
+    }
+
     pub fn value(self) -> u16
         ensures { λ r. ⌜ r ≡ self .value ⌝ }
     {

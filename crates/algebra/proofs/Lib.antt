@@ -1,0 +1,5 @@
+pub mod Ring
+pub mod Range
+pub mod Order
+pub mod Identity
+pub mod Sign

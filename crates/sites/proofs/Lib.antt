@@ -1,0 +1,5 @@
+pub mod Made
+pub mod Adding
+pub mod Contents
+pub mod Inside
+pub mod Orderly

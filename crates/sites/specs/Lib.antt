@@ -1,0 +1,4 @@
+pub mod Site
+pub mod Question
+pub mod Register
+pub mod Holdable
