@@ -53,23 +53,16 @@ module _ {R : Type 0} (numberOf : R → ℤ) (n : ℤ) where
       (λ other. let rest = found-out (suc k) j rs (sym (cond-false _ (Some k) _ other) ∙ e) in (suc (rest .0), omega (arith, rest .1), omega (arith, rest .2), cond-false _ rs (r ∷ takenOut numberOf n rs) other ∙ ap (λ (l : List R). r ∷ l) (rest .3)))
       (cases-bool (sameNumber (numberOf r) n))
 
-removed-map : {A R : Type 0} (raw : A → R) (xs : List A) (at : ℕ) → map raw (removed xs at) ≡ removed (map raw xs) at
-removed-map raw xs at =
-    map-append raw (take at xs) (drop (suc at) xs) ∙ ap (λ (l : List _). l ++ map raw (drop (suc at) xs)) (sym (take-map raw at xs)) ∙ ap (λ (l : List _). take at (map raw xs) ++ l) (sym (drop-map raw (suc at) xs))
+module _ {A R : Type 0} (raw : A → R) (numberOf : R → ℤ) (n : ℤ) where
+  -- what is held and what is taken out, by elements and by their records
+  pub holds-raw : (xs : List A) → holds (λ a. numberOf (raw a)) n xs ≡ holds numberOf n (map raw xs)
+  holds-raw [] = refl
+  holds-raw (x ∷ xs) = ap (λ (b : Bool). sameNumber (numberOf (raw x)) n || b) (holds-raw xs)
 
--- what a removal at the place of a number leaves of the records
-module _ {A R : Type 0} (raw : A → R) (numberOf : R → ℤ) (n : ℤ) (xs : List A) (at : ℕ) (found : placeFrom 0 (λ a. numberOf (raw a)) n xs ≡ Some at) where
-  found-raw : placeFrom 0 numberOf n (map raw xs) ≡ Some at
-  found-raw = sym (place-raw raw numberOf 0 n xs) ∙ found
-
-  pub found-within : at < length xs
-  found-within = let out = found-out numberOf n 0 at (map raw xs) found-raw in omega (arith, out .1, out .2, length-map xs raw)
-
-  pub taken-out : map raw (removed xs at) ≡ takenOut numberOf n (map raw xs)
-  taken-out =
-      let out = found-out numberOf n 0 at (map raw xs) found-raw in
-      let place : at ≡ out .0 = omega (arith, out .1) in
-      removed-map raw xs at ∙ ap (removed (map raw xs)) place ∙ sym (out .3)
+  pub taken-out : (xs : List A) → map raw (takenOut (λ a. numberOf (raw a)) n xs) ≡ takenOut numberOf n (map raw xs)
+  taken-out [] = refl
+  taken-out (x ∷ xs) =
+      cond-map (map raw) (sameNumber (numberOf (raw x)) n) xs (x ∷ takenOut (λ a. numberOf (raw a)) n xs) ∙ ap (λ (l : List R). cond (sameNumber (numberOf (raw x)) n) (map raw xs) (raw x ∷ l)) (taken-out xs)
 
 -- a number is held exactly if its place is found among the elements
 pub held-found : {A R : Type 0} (raw : A → R) (numberOf : R → ℤ) (n : ℤ) (xs : List A) → holds numberOf n (map raw xs) ≡ isSome (placeFrom 0 (λ a. numberOf (raw a)) n xs)

@@ -34,7 +34,7 @@ leZ-apart a b n h = grind (arith, ints)
 
 module _ {R : Type 0} (numberOf : R → ℤ) where
   -- what is true of each record is true of each that is left
-  all-takenOut : (P : R → Type 0) (n : ℤ) (rs : List R) → All P rs → All P (takenOut numberOf n rs)
+  pub all-takenOut : (P : R → Type 0) (n : ℤ) (rs : List R) → All P rs → All P (takenOut numberOf n rs)
   all-takenOut P n [] h = tt
   all-takenOut P n (r ∷ rs) h =
       ⊎-elim

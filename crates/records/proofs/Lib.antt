@@ -5,3 +5,5 @@ pub mod Held
 pub mod Contents
 pub mod Outcome
 pub mod Holdable
+pub mod Taking
+pub mod Removing

@@ -1,9 +1,10 @@
 -- The records that a register holds, in rising number.
 use mathlib.Core.Path.{_≡_}
-use mathlib.Core.List.{List, [], _∷_}
+use mathlib.Core.List.{List, [], _∷_, _++_}
 use mathlib.Core.Bool.{Bool, true, false, _&&_, _||_, cond}
-use Prim.Native.Nat.{ℕ, suc}
+use Prim.Native.Nat.{ℕ, suc, _-_}
 use lib.IntN.{ℤ}
+use lib.ListN.{length, take, drop}
 use lib.Signed.{ltZ, leZ}
 use Rattle.std.specs.declared.option.Option.{Option}
 use Rattle.std.specs.declared.option.Option.the-variants.{Some, None}
@@ -39,6 +40,11 @@ takenOut numberOf n (r ∷ rs) = cond (sameNumber (numberOf r) n) rs (r ∷ take
 -- Remove is refused exactly when the number is not held.
 abbrev pub removeRefusal : {R : Type 0} → (R → ℤ) → List R → ℤ → Option Refusal
 removeRefusal numberOf rs n = cond (holds numberOf n rs) None (Some NumberNotHeld)
+
+-- What taking that number out of the run of the first len elements leaves: from the run's new end on all is as it was.
+abbrev pub leftOf : {R : Type 0} → (R → ℤ) → ℤ → ℕ → List R → List R
+leftOf numberOf n len kept =
+    takenOut numberOf n (take len kept) ++ drop (length (take len kept) - 1) kept
 
 -- Records that a register can hold: none at first, then what unrefused adds and removes make of them.
 pub data Holdable {R : Type 0} (numberOf : R → ℤ) (addRefusal : List R → R → Option Refusal) : List R → Type 0 where

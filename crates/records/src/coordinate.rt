@@ -1,4 +1,4 @@
-// A coordinate in whole decimetres. No value of this type is out of range.
+//! A coordinate in whole decimetres. No value of this type is out of range.
 ghost use lib.IntN.{pos, negsuc};
 ghost use lib.Signed.{_≤ℤ_};
 ghost use mathlib.Core.Path.{_≡_};
@@ -24,18 +24,25 @@ impl Coordinate {
     pub fn new(value: i64) -> Option<Coordinate>
         ensures { λ r. ⌜ mapped (λ c. c .value) r ≡ keptBy isCoordinate value ⌝ }
     {
-        if value < -500_000 || value > 500_000 {
-            return None;
+        if is_coordinate(value) {
+            Some(Coordinate {
+                value: value as i32,
+            })
+        } else {
+            None
         }
-        Some(Coordinate {
-            value: value as i32,
-        })
     }
 
     pub fn zero() -> Coordinate
         ensures { λ r. ⌜ r .value ≡ pos 0 ⌝ }
     {
         Coordinate { value: 0 }
+    }
+
+    pub fn one() -> Coordinate
+        ensures { λ r. ⌜ r .value ≡ pos 1 ⌝ }
+    {
+        Coordinate { value: 1 }
     }
 
     pub fn value(self) -> i32

@@ -1,4 +1,4 @@
-// Whether a value lies between two limits, both included.
+//! Whether a value lies between two limits, both included.
 ghost use mathlib.Core.Path.{_≡_};
 ghost use Rattle.records.specs.Range.{within};
 

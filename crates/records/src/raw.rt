@@ -1,6 +1,6 @@
-// What a caller hands over. Every field is wide enough to be out of its range.
+//! What a caller hands over. Every field is wide enough to be out of its range.
 
-// A boundary edge from its left end (x1, y1) to its right end (x2, y2), with the zone above it.
+/// A boundary edge from its left end (x1, y1) to its right end (x2, y2), with the zone above it.
 #[derive(Clone, Copy)]
 pub struct EdgeRecord {
     pub number: i64,
@@ -18,14 +18,14 @@ pub struct SiteRecord {
     pub y: i64,
 }
 
-// The question to a zone chart.
+/// The question to a zone chart.
 #[derive(Clone, Copy)]
 pub struct Point {
     pub x: i64,
     pub y: i64,
 }
 
-// The question to a site chart: x from west to east and y from south to north, sides included.
+/// The question to a site chart: x from west to east and y from south to north, sides included.
 #[derive(Clone, Copy)]
 pub struct Rectangle {
     pub west: i64,

@@ -1,4 +1,4 @@
-// The number of a record. No value of this type is out of range.
+//! The number of a record. No value of this type is out of range.
 ghost use Prim.Native.Nat.{_<_};
 ghost use lib.IntN.{pos};
 ghost use mathlib.Core.Path.{_≡_};

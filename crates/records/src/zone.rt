@@ -1,4 +1,4 @@
-// The number of a zone. 0 is open ground.
+//! The number of a zone. 0 is open ground.
 ghost use lib.IntN.{pos};
 ghost use mathlib.Core.Path.{_≡_};
 ghost use Rattle.std.specs.Options.{mapped};

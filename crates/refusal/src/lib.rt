@@ -1,4 +1,4 @@
-// The table of refusals: why a call was turned down, one case for each reason.
+//! The table of refusals: why a call was turned down, one case for each reason.
 ghost use mathlib.Core.Path.{_≡_};
 ghost use Rattle.refusal.specs.Table.{numberOf, wordsOf};
 
@@ -27,7 +27,7 @@ pub enum Refusal {
 }
 
 impl Refusal {
-    // Its number in the table, 1 to 20.
+    /// Its number in the table, 1 to 20.
     pub fn number(self) -> u8
         ensures { λ r. ⌜ r ≡ numberOf self ⌝ }
     {
@@ -55,7 +55,7 @@ impl Refusal {
         }
     }
 
-    // The reason in words, as the program prints it.
+    /// The reason in words, as the program prints it.
     pub fn words(self) -> &'static str
         ensures { λ r. ⌜ now r ≡ wordsOf self ⌝ }
     {

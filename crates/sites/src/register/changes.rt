@@ -9,10 +9,10 @@ use crate::site::Site;
 use crate::site::number::SiteByNumber;
 use crate::site::number::SiteNumbered;
 use records::numbered::place_of;
+use records::numbered::take_out;
 use records::raw::SiteRecord;
 use refusal::Refusal;
 use slices::insert;
-use slices::remove;
 
 impl SiteRegister {
     pub fn add(&mut self, from: SiteRecord) -> Result<(), Refusal>
@@ -40,15 +40,8 @@ impl SiteRegister {
         ensures after { λ _. ⌜ held (now (self .exit)) ≡ unlessRefused (removeRefusal numberOf (held (now (self .entry))) number) (takenOut numberOf number (held (now (self .entry)))) (held (now (self .entry))) ⌝ }
     {
         let len = self.len;
-        let Some(at) = place_of(&self.sites[..len], number) else {
-            return Err(Refusal::NumberNotHeld);
-        };
-        match remove(&mut self.sites, len, at) {
-            Ok(shorter) => {
-                self.len = shorter;
-                Ok(())
-            }
-            Err(_) => unreachable(),
-        }
+        let shorter = take_out(&mut self.sites, len, number)?;
+        self.len = shorter;
+        Ok(())
     }
 }

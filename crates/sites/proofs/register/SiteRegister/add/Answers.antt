@@ -41,7 +41,7 @@ returns-then-is-some c =
     let site-is = chosen (isSite from) _ from (c .in-Some .ensures tt) in
     let place = from-bits w64 (λ n. placeFrom 0 (λ s. numberOf (rawOf s)) n (take (r .len) (r .sites))) _ (from .number) number (c .place-of .ensures) in
     let refused = number-held (held r) from (site-is .0) (free-or-held r from _ true place (c .if-is-some .ensures tt)) in
-    let both = outcome (addRefusal (held r) from) _ (held r) (putIn numberOf from (held r)) (held r) refused refl in
+    let both = outcome (addRefusal (held r) from) _ (tt {0}) (held r) (putIn numberOf from (held r)) (held r) refused refl in
     record { answer = both .answer; after = both .left }
 
 pub returns-in-Ok : need.returns-in-Ok
@@ -58,7 +58,7 @@ returns-in-Ok c =
     let after : map rawOf (take (c .in-Ok .longer) (c .insert .last .run)) ≡ putIn numberOf from (held r) =
     ap (map rawOf) (done .placing) ∙ put-in rawOf numberOf _ (λ s t. refl) (c .in-Some .site) (take (r .len) (r .sites)) ∙ ap (λ (x : SiteRecord). putIn numberOf x (held r)) (site-is .1)
     in
-    let both = outcome (addRefusal (held r) from) _ _ (putIn numberOf from (held r)) (held r) accepted after in
+    let both = outcome (addRefusal (held r) from) _ (tt {0}) _ (putIn numberOf from (held r)) (held r) accepted after in
     record { answer = both .answer; after = both .left }
 
 pub returns-in-Err : need.returns-in-Err
@@ -73,5 +73,5 @@ returns-in-Err c =
     let full : 128 ≤ length (held r) = omega (arith, r .places, done .room, held-length rawOf (r .sites) (r .len) (within r)) in
     let refused = register-full (held r) from (site-is .0) free full in
     let same : c .insert .last .run ≡ r .sites = done .after ∙ slice-without-room (Rattle.sites.specs.contracts.site.number.SiteByNumber.the-impl.ghosts .atMost) (r .sites) (r .len) _ (done .room) in
-    let both = outcome (addRefusal (held r) from) _ _ (putIn numberOf from (held r)) (held r) refused (ap (λ (l : List _). map rawOf (take (r .len) l)) same) in
+    let both = outcome (addRefusal (held r) from) _ (tt {0}) _ (putIn numberOf from (held r)) (held r) refused (ap (λ (l : List _). map rawOf (take (r .len) l)) same) in
     record { answer = both .answer; after = both .left }

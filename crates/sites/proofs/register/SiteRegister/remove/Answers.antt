@@ -1,61 +1,36 @@
-use mathlib.Core.Path.{_≡_, refl, sym, ap, _∙_}
-use mathlib.Core.Bool.{true, false}
-use mathlib.Core.List.{List, map}
-use borrow.Author.Needs.{needs}
-use native.Mathlib.Omega.{arith}
-use Prim.Native.Nat.{ℕ, _<_, _≤_}
+use mathlib.Core.Path.{_≡_, sym, ap, subst, _∙_}
+use mathlib.Core.List.{map}
 use lib.IntN.{ℤ}
-use lib.ListN.{length, take}
+use lib.ListN.{take}
 use mir.Syntax.{w64}
-use mir.Val.{SFits}
-use Rattle.std.specs.Options.{isSome}
-use Rattle.std.specs.declared.option.Option.{Option}
+use mir.Val.{ofZ, toZ}
+use Rattle.std.proofs.shelf.Results.{err-from-errBy}
+use Rattle.std.proofs.shelf.Signed.{toZ-ofZ}
 use Rattle.std.specs.declared.option.Option.the-variants.{Some, None}
-use Rattle.std.proofs.shelf.Tests.{cond-true, cond-false}
-use Rattle.refusal.specs.declared.Refusal.{Refusal}
-use Rattle.refusal.specs.declared.Refusal.the-variants.{NumberNotHeld}
-use Rattle.records.specs.Held.{holds, placeFrom, takenOut, removeRefusal}
-use Rattle.records.proofs.Outcome.{outcome, not-held, is-held}
-use Rattle.std.proofs.shelf.Lists.{length-take-le}
-use Rattle.records.specs.declared.raw.SiteRecord.{SiteRecord}
-use Rattle.records.proofs.Held.{held-found, found-within, taken-out}
-use Rattle.records.proofs.Contents.{held-length}
-use Rattle.records.proofs.Numbers.{from-bits}
-use Rattle.sites.proofs.Contents.{within}
+use Rattle.std.specs.declared.result.Result.the-variants.{Err}
+use Rattle.records.specs.Held.{removeRefusal, takenOut}
+use Rattle.records.proofs.Outcome.{Outcome, accepted, refused}
+use Rattle.records.proofs.Removing.{removal-refused, removal-done}
 use Rattle.sites.specs.Site.{rawOf, numberOf}
 use Rattle.sites.specs.Register.{held}
-use Rattle.sites.specs.declared.register.SiteRegister.{SiteRegister}
 use Rattle.sites.proofs.register.SiteRegister.remove.Needs as need
 
--- the number is looked for among those held
-looked : (r : SiteRegister) (n : ℤ) (o : Option ℕ) → o ≡ placeFrom 0 (λ s. numberOf (rawOf s)) n (take (r .len) (r .sites)) → holds numberOf n (held r) ≡ isSome o
-looked r n o place = held-found rawOf numberOf n (take (r .len) (r .sites)) ∙ ap isSome (sym place)
-
-pub returns-in-rest : need.returns-in-rest
-returns-in-rest c =
+pub returns-in-Break-shorter : need.returns-in-Break-shorter
+returns-in-Break-shorter c =
     let r = c .args .self .now in
-    let n = c .args .number in
-    let place = from-bits w64 (λ m. placeFrom 0 (λ s. numberOf (rawOf s)) m (take (r .len) (r .sites))) None n (c .fits .number) (c .in-rest .ensures tt) in
-    let both = outcome (removeRefusal numberOf (held r) n) _ (held r) (takenOut numberOf n (held r)) (held r) (not-held numberOf (held r) n (looked r n None place)) refl in
-    record { answer = both .answer; after = both .left }
-
-pub unreachable-requires : need.unreachable-requires
-unreachable-requires c κs =
-    let r = c .args .self .now in
-    let n = c .args .number in
-    let place = from-bits w64 (λ m. placeFrom 0 (λ s. numberOf (rawOf s)) m (take (r .len) (r .sites))) _ n (c .fits .number) (c .in-Some .ensures tt) in
-    let inside = found-within rawOf numberOf n (take (r .len) (r .sites)) (c .in-Some .at) (sym place) in
-    let past : r .len ≤ c .in-Some .at = c .in-Err .ensures tt .place (within r) in
-    omega (arith, inside, past, length-take-le (r .len) (r .sites) (within r))
+    let n = toZ w64 (ofZ w64 (c .args .number)) in
+    let told = c .in-Break-shorter .ensures tt in
+    let passed-on = err-from-errBy (c .from-residual .result) (c .from-residual .ensures .1) in
+    let turned-down = removal-refused rawOf numberOf n (r .sites) (r .len) (c .in-Break-shorter .field-0 .0) (c .take-out .last .kept) (refused _ _ _ (told .answer)) (told .after) in
+    let both = subst (λ (m : ℤ). Outcome (removeRefusal numberOf (held r) m) (Some (c .in-Break-shorter .field-0 .0)) (tt {0}) (map rawOf (take (r .len) (c .take-out .last .kept))) (takenOut numberOf m (held r)) (held r)) (toZ-ofZ w64 (c .args .number) (c .fits .number)) turned-down in
+    record { answer = passed-on .1 ∙ ap Err (passed-on .2) ∙ both .answer; after = both .left }
 
 pub returns : need.returns
 returns c =
     let r = c .args .self .now in
-    let n = c .args .number in
-    let run = take (r .len) (r .sites) in
-    let place = from-bits w64 (λ m. placeFrom 0 (λ s. numberOf (rawOf s)) m run) _ n (c .fits .number) (c .in-Some .ensures tt) in
-    let after : map rawOf (take (c .in-Ok .shorter) (c .remove .last .run)) ≡ takenOut numberOf n (held r) =
-    ap (map rawOf) (c .in-Ok .ensures tt .removing) ∙ taken-out rawOf numberOf n run (c .in-Some .at) (sym place)
-    in
-    let both = outcome (removeRefusal numberOf (held r) n) _ _ (takenOut numberOf n (held r)) (held r) (is-held numberOf (held r) n (looked r n _ place)) after in
+    let n = toZ w64 (ofZ w64 (c .args .number)) in
+    let told = c .in-Continue-shorter .ensures tt in
+    let taken = accepted _ _ _ (told .answer) in
+    let done = removal-done rawOf numberOf n (r .sites) (r .len) (c .in-Continue-shorter .shorter) (c .take-out .last .kept) (taken .0) (taken .1) (told .after) in
+    let both = subst (λ (m : ℤ). Outcome (removeRefusal numberOf (held r) m) None (tt {0}) (map rawOf (take (c .in-Continue-shorter .shorter) (c .take-out .last .kept))) (takenOut numberOf m (held r)) (held r)) (toZ-ofZ w64 (c .args .number) (c .fits .number)) done in
     record { answer = both .answer; after = both .left }

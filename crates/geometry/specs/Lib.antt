@@ -1,0 +1,5 @@
+pub mod Fraction
+pub mod Edge
+pub mod Conflict
+pub mod Held
+pub mod Rank

@@ -1,0 +1,12 @@
+pub mod Signs
+pub mod Line
+pub mod Order
+pub mod Symmetry
+pub mod Ranking
+pub mod Elements
+pub mod Pairwise
+pub mod Apart
+pub mod Topmost
+pub mod Lower
+pub mod Turns
+pub mod Worked

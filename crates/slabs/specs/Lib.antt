@@ -1,0 +1,3 @@
+pub mod Slab
+pub mod Topmost
+pub mod Worked

@@ -1,0 +1,5 @@
+pub mod Contents
+pub mod Adding
+pub mod Conflicts
+pub mod Looking
+pub mod Orderly

@@ -1,0 +1,4 @@
+pub mod Edges
+pub mod Question
+pub mod Register
+pub mod Holdable
