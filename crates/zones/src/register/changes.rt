@@ -17,6 +17,9 @@ use records::raw::EdgeRecord;
 use refusal::Refusal;
 use slices::insert;
 
+/// How many edges a register has room for.
+const ROOM: usize = 64;
+
 impl ZoneRegister {
     pub fn add(&mut self, from: EdgeRecord) -> Result<(), Refusal>
         ensures answer { λ r. ⌜ r ≡ answered (addRefusal (held (now (self .entry))) from) tt ⌝ }
@@ -29,7 +32,7 @@ impl ZoneRegister {
         if place_of(&self.edges[..len], from.number).is_some() {
             return Err(Refusal::NumberHeld);
         }
-        if len >= 64 {
+        if len >= ROOM {
             return Err(Refusal::RegisterFull);
         }
         if self.has_conflict(&edge) {

@@ -58,15 +58,15 @@ returns-then-is-some c =
     let both = outcome (addRefusal (held r) from) _ (tt {0}) (held r) (putIn numberOf from (held r)) (held r) refused refl in
     record { answer = both .answer; after = both .left }
 
-pub returns-then-len-ge64 : need.returns-then-len-ge64
-returns-then-len-ge64 c =
+pub returns-then-len-ge-ROOM : need.returns-then-len-ge-ROOM
+returns-then-len-ge-ROOM c =
     let r = c .args .self .now in
     let from = c .args .from in
     let number : SFits w64 (from .number) = search needs in
     let edge-is = chosen (isEdge from) _ from (c .in-Some .ensures tt) in
     let place = from-bits w64 (λ n. placeFrom 0 (λ e. numberOf (rawOf e)) n (take (r .len) (r .edges))) _ (from .number) number (c .place-of .ensures) in
     let free = free-or-held r from _ false place (c .if-is-some .ensures tt) in
-    let full : 64 ≤ length (held r) = omega (arith, c .if-len-ge64 .taken, holds-few r) in
+    let full : 64 ≤ length (held r) = omega (arith, c .if-len-ge-ROOM .taken, holds-few r) in
     let both = outcome (addRefusal (held r) from) _ (tt {0}) (held r) (putIn numberOf from (held r)) (held r) (register-full (held r) from (edge-is .0) free full) refl in
     record { answer = both .answer; after = both .left }
 
@@ -78,7 +78,7 @@ returns-then-has-conflict c =
     let edge-is = chosen (isEdge from) _ from (c .in-Some .ensures tt) in
     let place = from-bits w64 (λ n. placeFrom 0 (λ e. numberOf (rawOf e)) n (take (r .len) (r .edges))) _ (from .number) number (c .place-of .ensures) in
     let free = free-or-held r from _ false place (c .if-is-some .ensures tt) in
-    let room : length (held r) < 64 = omega (arith, c .if-len-ge64 .left, holds-few r) in
+    let room : length (held r) < 64 = omega (arith, c .if-len-ge-ROOM .left, holds-few r) in
     let crosses : conflictsWithAny from (held r) ≡ true = ap (λ (e : EdgeRecord). conflictsWithAny e (held r)) (sym (edge-is .1)) ∙ sym (c .if-has-conflict .ensures tt) in
     let both = outcome (addRefusal (held r) from) _ (tt {0}) (held r) (putIn numberOf from (held r)) (held r) (in-conflict (held r) from (edge-is .0) free room crosses) refl in
     record { answer = both .answer; after = both .left }
@@ -91,7 +91,7 @@ returns c =
     let edge-is = chosen (isEdge from) _ from (c .in-Some .ensures tt) in
     let place = from-bits w64 (λ n. placeFrom 0 (λ e. numberOf (rawOf e)) n (take (r .len) (r .edges))) _ (from .number) number (c .place-of .ensures) in
     let free = free-or-held r from _ false place (c .if-is-some .ensures tt) in
-    let room : length (held r) < 64 = omega (arith, c .if-len-ge64 .left, holds-few r) in
+    let room : length (held r) < 64 = omega (arith, c .if-len-ge-ROOM .left, holds-few r) in
     let clear : conflictsWithAny from (held r) ≡ false = ap (λ (e : EdgeRecord). conflictsWithAny e (held r)) (sym (edge-is .1)) ∙ sym (c .if-has-conflict .ensures tt) in
     let accepted = not-refused (held r) from (edge-is .0) free room clear in
     let after : map rawOf (take (c .in-Ok .longer) (c .insert .last .run)) ≡ putIn numberOf from (held r) =

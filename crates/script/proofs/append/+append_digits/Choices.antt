@@ -1,0 +1,4 @@
+use Rattle.script.proofs.append.+append_digits.Given as given
+
+abbrev pub μ-append-digits : given.MeasureT-append-digits
+μ-append-digits l = l .number

@@ -1,0 +1,10 @@
+//! The command lines of the program, and the lines that it answers with.
+mod append;
+pub mod command;
+mod names;
+mod number;
+pub mod promises;
+pub mod read;
+pub mod reply;
+mod words;
+pub mod write;
