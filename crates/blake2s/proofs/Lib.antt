@@ -1,0 +1,5 @@
+pub mod ScheduleTable
+pub mod RoundSteps
+pub mod BlockSteps
+pub mod DigestBytes
+pub mod TakenParts

@@ -1,0 +1,5 @@
+pub mod Constants
+pub mod Mixing
+pub mod Standard
+pub mod Vectors
+pub mod Parts

@@ -1,0 +1,4 @@
+pub mod Bytes
+pub mod Chunks
+pub mod Offers
+pub mod Writes

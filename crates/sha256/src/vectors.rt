@@ -1,0 +1,14 @@
+// Published digests, computed from the definition.
+ghost use Rattle.sha256.specs.Vectors.{EmptyMessage, MessageAbc};
+
+pub fn the_empty_message_has_its_published_digest() -> u8
+    ensures { λ _. ⌜ EmptyMessage ⌝ }
+{
+    0
+}
+
+pub fn abc_has_its_published_digest() -> u8
+    ensures { λ _. ⌜ MessageAbc ⌝ }
+{
+    0
+}
