@@ -21,7 +21,16 @@ use Rattle.sites.specs.Site as sites
 use Rattle.sites.specs.Question as rectangle
 use Rattle.sites.specs.Register as siteRegister
 use Rattle.slabs.specs.Topmost.{zoneAt}
+use Rattle.digest.specs.Hashing.{hashed}
+use Rattle.sha256.specs.Standard.{sha256}
+use Rattle.blake2s.specs.Standard.{blake2s}
+use Rattle.hex.specs.Hex.{bytesIn}
+use Rattle.byte_commands.specs.Asked.{Asked, digest}
+use Rattle.byte_commands.specs.Lines.{lineOfDigest}
+use Rattle.byte_commands.specs.Read.{readByteCommand}
 use Rattle.script.specs.Command.{readCommand}
+use Rattle.script.specs.declared.command.HashName.{HashName}
+use Rattle.script.specs.declared.command.HashName.the-variants.{Sha256, Blake2s}
 use Rattle.script.specs.Lines.{ended, lineOf, lineOfEdge, lineOfSite, lineOfSites, lineOfUnknown}
 use Rattle.script.specs.declared.command.ChartKind.{ChartKind}
 use Rattle.script.specs.declared.command.ChartKind.the-variants.{Zone, Site}
@@ -97,9 +106,27 @@ left s (AnswerSites q) = s
 left s Records = s
 left s Blank = s
 
--- The same of a line: one that is no command is unknown, prints itself and leaves all as it was.
+-- The function that a hash's name stands for.
+abbrev pub functionOf : HashName → List ℕ → List ℕ
+functionOf Sha256 = sha256
+functionOf Blake2s = blake2s
+
+abbrev pub hashedLine : Result (List ℕ) Refusal → List ℕ
+hashedLine (Ok bytes) = lineOfDigest bytes
+hashedLine (Err refusal) = lineOf (Refused refusal)
+
+-- What the digest of a message, given in hex, prints.
+abbrev pub digestLine : HashName → List ℕ → List ℕ
+digestLine hash message = hashedLine (hashed (functionOf hash) (bytesIn message))
+
+-- A line that is no command is unknown and prints itself.
+abbrev pub printedWithBytes : List ℕ → Option Asked → List ℕ
+printedWithBytes line None = ended (lineOfUnknown line)
+printedWithBytes line (Some (digest hash message)) = ended (digestLine hash message)
+
+-- The same of a line. A command that carries bytes leaves all as it was, as does a line that is unknown.
 abbrev pub printedOf : State → List ℕ → Option Command → List ℕ
-printedOf s line None = ended (lineOfUnknown line)
+printedOf s line None = printedWithBytes line (readByteCommand line)
 printedOf s line (Some command) = printed s command
 
 abbrev pub leftOf : State → Option Command → State

@@ -19,7 +19,7 @@ fn main(rt: LibcRuntime) -> io::Result<()> {
         if input.read_until(b'\n', &mut line)? == 0 {
             break;
         }
-        session.answer_line(without_newline(&line), &mut replies)?;
+        session.answer_line(heap, without_newline(&line), &mut replies)?;
         output.write_all(&replies)?;
         replies.clear();
     }

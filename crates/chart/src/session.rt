@@ -5,6 +5,7 @@ use zones::register::ZoneRegister;
 
 pub mod answers;
 pub mod commands;
+pub mod digests;
 pub mod lists;
 
 #[derive(Drop)]

@@ -6,5 +6,8 @@ mod number;
 pub mod promises;
 pub mod read;
 pub mod reply;
-mod words;
+pub mod words;
 pub mod write;
+
+pub use names::hash_named;
+pub use names::same;

@@ -23,7 +23,8 @@ impl<'a> Words<'a> {
     }
 
     pub fn next(&mut self) -> Option<&'a [u8]>
-        ensures { λ r. ⌜ wordsOf (now (self .entry) .rest .now) ≡ beforeWords (mapped (λ w. w .now) r) (wordsOf (now (self .exit) .rest .now)) ⌝ }
+        ensures word { λ r. ⌜ wordsOf (now (self .entry) .rest .now) ≡ beforeWords (mapped (λ w. w .now) r) (wordsOf (now (self .exit) .rest .now)) ⌝ }
+        ensures rest { λ _. ⌜ wordsOf (now (self .exit) .rest .now) ≡ drop 1 (wordsOf (now (self .entry) .rest .now)) ⌝ }
     {
         let rest = self.rest;
         let start = separators(rest);
@@ -38,7 +39,8 @@ impl<'a> Words<'a> {
 
     /// The next word as a number.
     pub fn number(&mut self) -> Option<i64>
-        ensures { λ r. ⌜ mapped (λ z. (z, wordsOf (now (self .exit) .rest .now))) r ≡ firstNumber (wordsOf (now (self .entry) .rest .now)) ⌝ }
+        ensures value { λ r. ⌜ mapped (λ z. (z, wordsOf (now (self .exit) .rest .now))) r ≡ firstNumber (wordsOf (now (self .entry) .rest .now)) ⌝ }
+        ensures rest { λ _. ⌜ wordsOf (now (self .exit) .rest .now) ≡ drop 1 (wordsOf (now (self .entry) .rest .now)) ⌝ }
     {
         let word = self.next()?;
         read_number(word)
@@ -46,7 +48,8 @@ impl<'a> Words<'a> {
 
     /// There is a value where no word is left.
     pub fn end(&mut self) -> Option<()>
-        ensures { λ r. ⌜ r ≡ atEnd (wordsOf (now (self .entry) .rest .now)) tt ⌝ }
+        ensures ends { λ r. ⌜ r ≡ atEnd (wordsOf (now (self .entry) .rest .now)) tt ⌝ }
+        ensures rest { λ _. ⌜ wordsOf (now (self .exit) .rest .now) ≡ drop 1 (wordsOf (now (self .entry) .rest .now)) ⌝ }
     {
         match self.next() {
             Some(_) => None,

@@ -56,7 +56,7 @@ fn append_reply(out: &mut Vec<u8>, reply: Reply) -> Result<(), AllocError>
 }
 
 /// Ends a line that began at `start`, or takes it back where memory failed.
-fn finish_line(
+pub fn finish_line(
     out: &mut Vec<u8>,
     start: usize,
     written: Result<(), AllocError>,

@@ -5,3 +5,5 @@ pub mod SortedLists
 pub mod Uniqueness
 pub mod Removing
 pub mod Rewriting
+pub mod Stacking
+pub mod Deciding

@@ -1,3 +1,4 @@
 pub mod Order
 pub mod Insertion
 pub mod Removal
+pub mod Stacks

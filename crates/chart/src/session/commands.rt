@@ -3,13 +3,17 @@ ghost use mathlib.Core.List.{[], _++_};
 ghost use mathlib.Core.Path.{_≡_};
 ghost use Rattle.std.specs.Of.Vec.{vec-items};
 ghost use Rattle.std.specs.Vec.{made};
+ghost use Rattle.byte_commands.specs.Read.{readByteCommand};
 ghost use Rattle.script.specs.declared.command.ChartKind.the-variants.{Zone};
 ghost use Rattle.script.specs.declared.command.Command.the-variants.{Begin, AddEdge, AddSite, Remove, List as Records};
-ghost use Rattle.chart.specs.Session.{left, leftBy, printed, printedFor, stateOf};
+ghost use Rattle.chart.specs.Session.{left, leftBy, printed, printedFor, printedWithBytes, stateOf};
 use super::Session;
 use super::answers::write_outcome;
+use super::digests::answer_digest;
 use super::lists::list_edges;
 use super::lists::list_sites;
+use byte_commands::command::ByteCommand;
+use byte_commands::read::read_byte_command;
 use records::raw::EdgeRecord;
 use records::raw::SiteRecord;
 use script::command::ChartKind;
@@ -21,6 +25,7 @@ use script::write::write_reply;
 use script::write::write_unknown;
 use sites::register::SiteRegister;
 use std::alloc::AllocError;
+use std::alloc::Global;
 use zones::register::ZoneRegister;
 
 impl Session {
@@ -36,12 +41,17 @@ impl Session {
     }
 
     /// Does what a line asks for, and puts what is to be printed after what is written.
-    pub fn answer_line(&mut self, line: &[u8], out: &mut Vec<u8>) -> Result<(), AllocError>
+    pub fn answer_line(
+        &mut self,
+        heap: Global,
+        line: &[u8],
+        out: &mut Vec<u8>,
+    ) -> Result<(), AllocError>
         ensures printed { λ r. ⌜ made r (λ _. vec-items (now (out .exit)) ≡ vec-items (now (out .entry)) ++ printedFor (stateOf (now (self .entry))) (now (line .entry))) ⌝ }
         ensures left { λ _. ⌜ stateOf (now (self .exit)) ≡ leftBy (stateOf (now (self .entry))) (now (line .entry)) ⌝ }
     {
         match read_command(self.kind, line) {
-            None => write_unknown(out, line),
+            None => answer_bytes(heap, line, out),
             Some(Command::Blank) => Ok(()),
             Some(Command::Begin { kind, hash }) => self.begin(kind, hash, out),
             Some(Command::AddEdge(edge)) => self.add_edge(edge, out),
@@ -102,5 +112,15 @@ impl Session {
             ChartKind::Zone => list_edges(&self.edges, out),
             ChartKind::Site => list_sites(&self.sites, out),
         }
+    }
+}
+
+/// The same of a line that is no command without bytes.
+fn answer_bytes(heap: Global, line: &[u8], out: &mut Vec<u8>) -> Result<(), AllocError>
+    ensures { λ r. ⌜ made r (λ _. vec-items (now (out .exit)) ≡ vec-items (now (out .entry)) ++ printedWithBytes (now (line .entry)) (readByteCommand (now (line .entry)))) ⌝ }
+{
+    match read_byte_command(line) {
+        None => write_unknown(out, line),
+        Some(ByteCommand::Digest { hash, message }) => answer_digest(heap, hash, message, out),
     }
 }

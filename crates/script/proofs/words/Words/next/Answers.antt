@@ -1,5 +1,6 @@
 use native.Mathlib.Omega.{arith}
-use mathlib.Core.Path.{refl}
+use mathlib.Core.Path.{refl, ap, sym, _∙_}
+use lib.ListN.{drop}
 use Rattle.script.proofs.Pieces.{first-kept, none-from, word-from}
 use Rattle.script.proofs.words.Words.next.Needs as need
 
@@ -9,8 +10,10 @@ word-length-len-requires c κs =
 
 pub returns-then-len-eq0 : need.returns-then-len-eq0
 returns-then-len-eq0 c =
-    none-from (c .args .self .now .rest .now) (c .separators-start .result) (c .separators-start .ensures .skips) (c .word-length-len .ensures .none (c .if-len-eq0 .taken))
+    let none = none-from (c .args .self .now .rest .now) (c .separators-start .result) (c .separators-start .ensures .skips) (c .word-length-len .ensures .none (c .if-len-eq0 .taken)) in
+    record { word = none; rest = none ∙ sym (ap (drop 1) none) }
 
 pub returns : need.returns
 returns c =
-    word-from (c .args .self .now .rest .now) _ (c .separators-start .result) (c .word-length-len .result) refl (c .separators-start .ensures .skips) (c .word-length-len .ensures .some (omega arith))
+    let some = word-from (c .args .self .now .rest .now) _ (c .separators-start .result) (c .word-length-len .result) refl (c .separators-start .ensures .skips) (c .word-length-len .ensures .some (omega arith)) in
+    record { word = some; rest = sym (ap (drop 1) some) }

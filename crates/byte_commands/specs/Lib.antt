@@ -1,0 +1,4 @@
+pub mod Asked
+pub mod Read
+pub mod Lines
+pub mod Apart

@@ -1,0 +1,5 @@
+pub mod Xdr
+pub mod Strings
+pub mod Kinds
+pub mod Writing
+pub mod Sizes

@@ -1,0 +1,10 @@
+pub mod Words
+pub mod Indexed
+pub mod Chunking
+pub mod Outcomes
+pub mod PartsOfParts
+pub mod ReadingBack
+pub mod WritingBack
+pub mod DigestPlaces
+pub mod FourNumbers
+pub mod HashedStrings
