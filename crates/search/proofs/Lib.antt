@@ -1,0 +1,10 @@
+pub mod Places
+pub mod Growing
+pub mod Rooted
+pub mod Walking
+pub mod Members
+pub mod Bytes
+pub mod Finding
+pub mod Drafts
+pub mod Figures
+pub mod Sequences

@@ -1,0 +1,14 @@
+pub mod Node
+pub mod Judging
+pub mod Picks
+pub mod Figure
+pub mod Walk
+pub mod Honest
+pub mod Drawing
+pub mod Laws
+pub mod Rose
+pub mod Making
+pub mod Visit
+pub mod Sheet
+pub mod Verdict
+pub mod Drafting

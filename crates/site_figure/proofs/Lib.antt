@@ -1,0 +1,14 @@
+pub mod Halves
+pub mod SortedTrees
+pub mod Spans
+pub mod Judges
+pub mod Fitness
+pub mod Levels
+pub mod Crowds
+pub mod Bytes
+pub mod Shuffles
+pub mod Told
+pub mod Emissions
+pub mod Holding
+pub mod Nodes
+pub mod Lawful

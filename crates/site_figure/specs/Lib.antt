@@ -1,0 +1,4 @@
+pub mod Judge
+pub mod Halving
+pub mod Figure
+pub mod Promises
