@@ -153,8 +153,7 @@ pub whole-drawn : {Q : Type 0} (judging : Judging Q) → JudgesWell judging → 
     → answer ≡ draftAnswer sheet (drafted (drawnSoFar 0 sheet) r) → left ≡ sheetWith sheet (drafted (drawnSoFar 0 sheet) r .records)
     → (counted answer ≡ drawnCount (figureOf r) sheet) × (left ≡ drawnSheet (figureOf r) sheet)
 whole-drawn judging well r fits sheet answer left answered leaves =
-    let draft = ap (λ (t : List SheetRecord). drafted t r) (none-so-far sheet) ∙ drafts-are-figures judging well r fits in
-    (
-        ap counted (answered ∙ ap (draftAnswer sheet) draft) ∙ drawn-count (figureOf r) sheet (rootOf (figureOf r)),
-        leaves ∙ ap (λ (d : Draft). sheetWith sheet (d .records)) draft ∙ drawn-sheet (figureOf r) sheet
+    let draft = ap (λ (t : List SheetRecord). drafted t r) (none-so-far sheet) ∙ drafts-are-figures judging well r fits in (
+      ap counted (answered ∙ ap (draftAnswer sheet) draft) ∙ drawn-count (figureOf r) sheet (rootOf (figureOf r)),
+      leaves ∙ ap (λ (d : Draft). sheetWith sheet (d .records)) draft ∙ drawn-sheet (figureOf r) sheet,
     )

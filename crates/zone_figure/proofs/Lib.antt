@@ -1,0 +1,16 @@
+pub mod Halving
+pub mod Finding
+pub mod Visiting
+pub mod Descent
+pub mod FromBelow
+pub mod SlabZone
+pub mod Bounds
+pub mod West
+pub mod Fitness
+pub mod JudgesWell
+pub mod Alone
+pub mod Crowding
+pub mod Sharing
+pub mod Counting
+pub mod Slabs
+pub mod Figures
