@@ -124,6 +124,18 @@ next sheet first x h draw grows answer left outcome =
       leaves = outcome .leaves ∙ ap (λ (t : List SheetRecord). sheetWith (sheetWith sheet (first .records)) (draw t .records)) place ∙ ap (sheetWith (sheetWith sheet (first .records))) (grown-by .1) ∙ drawn-on sheet (first .records) (grown-by .0) ∙ ap (sheetWith sheet) (sym (grown-by .1));
     }
 
+-- the same, as calls tell it: what the first left is a sheet of its own
+pub next-call : (sheet after : List SheetRecord) (first : Draft) (x : Drawn) → Ok x ≡ draftAnswer sheet first → after ≡ sheetWith sheet (first .records)
+    → (draw : List SheetRecord → Draft) → Grows draw
+    → (answer : Result Drawn Refusal) (left : List SheetRecord)
+    → answer ≡ draftAnswer after (draw (drawnSoFar (x .len) after)) → left ≡ sheetWith after (draw (drawnSoFar (x .len) after) .records)
+    → Outcome sheet (draw (first .records)) answer left
+next-call sheet after first x h is draw grows answer left answered leaves =
+    next sheet first x h draw grows answer left (record {
+      answered = answered ∙ ap (λ (t : List SheetRecord). draftAnswer t (draw (drawnSoFar (x .len) t))) is;
+      leaves = leaves ∙ ap (λ (t : List SheetRecord). sheetWith t (draw (drawnSoFar (x .len) t) .records)) is;
+    })
+
 -- after a refused drawing nothing else is drawn: the whole is refused, and leaves the same
 pub stop : (sheet : List SheetRecord) (first : Draft) (e : Refusal) → Err e ≡ draftAnswer sheet first
     → (draw : List SheetRecord → Draft) → Grows draw → Outcome sheet (draw (first .records)) (Err e) (sheetWith sheet (first .records))

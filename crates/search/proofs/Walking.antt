@@ -3,6 +3,7 @@ use mathlib.Core.Path.{_≡_, refl, sym, ap, subst, _∙_}
 use mathlib.Core.List.{List, [], _∷_, _++_, append-assoc}
 use Prim.Native.Nat.{ℕ, zero, suc, _+_, _*_, _-_, _<_, _≤_, max}
 use native.Mathlib.Omega.{arith}
+use lib.Dec.{leb}
 use lib.IntN.{ℤ}
 use lib.ListN.{length, length-append}
 use Rattle.std.specs.Joined.{joined}
@@ -12,13 +13,14 @@ use Rattle.std.specs.declared.option.Option.{Option}
 use Rattle.std.specs.declared.option.Option.the-variants.{Some, None}
 use Rattle.std.proofs.shelf.Elements.{all-weaker}
 use Rattle.std.proofs.shelf.Lists.{append-nil}
+use Rattle.slices.specs.Order.{sorted}
 use Rattle.search.specs.Node.{Node, stringBytes, bytesOf}
 use Rattle.search.specs.Judging.{Judging, Judgement, Judgeable}
 use Rattle.search.specs.Picks.{ahead, picks}
 use Rattle.search.specs.Figure.{Sound, IsFigure, rootOf}
 use Rattle.search.specs.Walk.{Walk, ended, taken, mostWaiting, WalkFromRoot, judgeNode, waitingAfter, Walks-have-one-result}
 use Rattle.search.specs.Honest.{IsHonest, Honest-proofs-are-unique, stringsOf, digestsOf}
-use Rattle.search.specs.Laws.{JudgesWell}
+use Rattle.search.specs.Laws.{Answers, JudgesWell, longestProof}
 use Rattle.search.specs.Rose.{Rose, Roses, grown, end, more, howMany, levels, levelsOfEach}
 use Rattle.search.specs.Making.{figureOf, made, Stands, StandEach}
 use Rattle.search.specs.Visit.{Fits, FitsWhole, FitEach, visit, visitEach, emitsAt, emissionsOf, roseBytes, rosesBytes, NodesOf, crowdOf, crowd, crowdEach, IsWalked, Crowds-are-allowed, Crowds-are-small, Roses-are-walked, Roses-make-figures}
@@ -214,4 +216,17 @@ roses-make-figures judging r fits =
     record {
       some = root-is-last r .1;
       sound = λ place n at. let w = built .covered place (nth-bound (figureOf r) place n at) in sound-where judging (figureOf r) place n (w .0) at (w .1) (w .2);
+    }
+
+-- what a chart kind has left to show of its rose: its bytes and its emissions
+pub answers-by-rose : {Q : Type 0} (judging : Judging Q) (q : Q) (r : Rose) (answer : List ℕ) → JudgesWell judging → FitsWhole judging r → levels r ≤ mostWaiting
+    → rosesBytes (visit judging q r) ≤ longestProof → sorted leb (emissionsOf judging q (visit judging q r)) ≡ answer → Answers judging (figureOf r) q answer
+answers-by-rose judging q r answer well fits low short exact =
+    let walked = roses-are-walked judging well q mostWaiting r fits low in
+    record {
+      visited = walked .visited;
+      emitted = emissionsOf judging q (visit judging q r);
+      walk = walked .walk;
+      short = omega (arith, walked .bytes, short);
+      exact = exact;
     }
