@@ -12,9 +12,9 @@ use mathlib.Core.Bool.{Bool, true, false, cond, false≢true}
 use mathlib.Core.List.{List, [], ◌∷◌}
 use Prim.Native.Nat.{ℕ, compare, Ordering}
 use native.Mathlib.Omega.{arith}
-use lib.Dec.{T, leb, leb→le, compare_is_eq, eqb→eq}
+use lib.Dec.{leb, leb→le, eqb→eq}
 use lib.ListN.{get_or}
-use lib.IntN.{ℤ, pos, negsuc, ◌+ℤ◌, ◌-ℤ◌, ◌*ℤ◌, neg_ℤ, +ℤ_comm, +ℤ_assoc, +ℤ_idl, +ℤ_idr, zero-*ℤ, *ℤ-zero, *ℤ_comm}
+use lib.IntN.{ℤ, pos, negsuc, ◌+ℤ◌, ◌-ℤ◌, ◌*ℤ◌, neg_ℤ, +ℤ_assoc, +ℤ_idl, +ℤ_idr, zero-*ℤ, *ℤ-zero}
 use borrow.Author.Differences.{ints}
 use Rattle.algebra.specs.Expressions.{Expression, unknown, number, ◌⊕◌, ◌⊖◌, ◌⊗◌, minus, value}
 use Rattle.algebra.specs.Forms.{Form, nothing, term, Monomial, by_order, compare_monomials, times_unknown, times_monomial, is_zero, with_term, plus_term, plus, scaled, times, form, is_nothing, same_form}

@@ -4,11 +4,11 @@
 use mathlib.Core.Path.{◌≡◌, refl, sym, ap, ◌∙◌, subst, subst₂}
 use mathlib.Core.Bool.{Bool, true, false}
 use mathlib.Core.Logic.{◌⊎◌, inl, inr, ⊎_elim}
-use Prim.Native.Nat.{ℕ, zero, suc, ◌+◌, ◌*◌, ◌<◌, ◌≤◌}
+use Prim.Native.Nat.{◌<◌}
 use native.Mathlib.Nat.{mul-pos}
 use native.Mathlib.Omega.{arith}
-use lib.IntN.{ℤ, pos, negsuc, ◌+ℤ◌, ◌-ℤ◌, ◌*ℤ◌, neg_ℤ, *ℤ_comm, zero-*ℤ, *ℤ-zero}
-use lib.Signed.{lt_z, le_z, ◌<ℤ◌, ◌≤ℤ◌, <ℤ_irrefl, clash_ℤ}
+use lib.IntN.{ℤ, pos, negsuc, ◌+ℤ◌, ◌-ℤ◌, ◌*ℤ◌, neg_ℤ, *ℤ_comm, *ℤ-zero}
+use lib.Signed.{lt_z, le_z, ◌<ℤ◌, ◌≤ℤ◌, clash_ℤ}
 use borrow.Author.Differences.{ints}
 use Rattle.algebra.specs.Laws.{OrderLaws}
 use Rattle.algebra.proofs.Ring.{*ℤ-distributes-minus-left, negℤ-*ℤ_left, negℤ-*ℤ_right, negℤ-*ℤ_negℤ}
@@ -219,12 +219,12 @@ pub 0≤-factor : {a : ℤ} (b : ℤ) → pos 0 <ℤ a → pos 0 ≤ℤ (a *ℤ 
 
 pub integers_are_ordered_lem : OrderLaws
 integers_are_ordered_lem = record {
-  at-most-transitive = λ a b c h k. ≤ℤ-trans h k;
-  at-most-antisymmetric = λ a b h k. ≤ℤ-antisym h k;
+  at_most_transitive = λ a b c h k. ≤ℤ-trans h k;
+  at_most_antisymmetric = λ a b h k. ≤ℤ-antisym h k;
   one_of_three = trichotomy;
-  sum-keeps-order = λ a b c d h k. +ℤ-mono-≤ h k;
-  product-of-positive = λ a b h k. 0<-*ℤ h k;
-  positive-factor-cancels = λ a b c h k. *ℤ-cancel-≤ a b h k;
-  size-of-product = nat_abs_*ℤ;
-  size-of-sum = nat_abs_+ℤ;
+  sum_keeps_order = λ a b c d h k. +ℤ-mono-≤ h k;
+  product_of_positive = λ a b h k. 0<-*ℤ h k;
+  positive_factor_cancels = λ a b c h k. *ℤ-cancel-≤ a b h k;
+  size_of_product = nat_abs_*ℤ;
+  size_of_sum = nat_abs_+ℤ;
 }

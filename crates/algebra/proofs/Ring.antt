@@ -2,10 +2,10 @@
 -- An integer z is read as `up z - down z`; a law is then one of the natural numbers.
 -- Assumes nothing.
 use mathlib.Core.Path.{◌≡◌, refl, sym, ap, ◌∙◌}
-use Prim.Native.Nat.{ℕ, suc, ◌+◌, ◌*◌}
+use Prim.Native.Nat.{◌*◌}
 use native.Mathlib.Omega.{arith}
-use lib.IntN.{ℤ, pos, negsuc, ◌+ℤ◌, ◌-ℤ◌, ◌*ℤ◌, neg_ℤ, +ℤ_comm, +ℤ_assoc, +ℤ_idr, +ℤ_invr, *ℤ_comm, neg_ℤ-neg_ℤ}
-use borrow.Author.Differences.{up, down, same_in, same_out, sum_is_lem, neg_is, product_is, ints}
+use lib.IntN.{ℤ, pos, ◌+ℤ◌, ◌-ℤ◌, ◌*ℤ◌, neg_ℤ, +ℤ_comm, +ℤ_assoc, +ℤ_idr, +ℤ_invr, *ℤ_comm, neg_ℤ-neg_ℤ}
+use borrow.Author.Differences.{up, down, same_in, sum_is_lem, neg_is, product_is, ints}
 use Rattle.algebra.specs.Laws.{RingLaws}
 
 pub *ℤ-distributes-left : (a b c : ℤ) → a *ℤ (b +ℤ c) ≡ a *ℤ b +ℤ a *ℤ c
@@ -77,13 +77,13 @@ pub +ℤ-left-comm : (a b c : ℤ) → a +ℤ (b +ℤ c) ≡ b +ℤ (a +ℤ c)
 
 pub integers_form_a_ring_lem : RingLaws
 integers_form_a_ring_lem = record {
-  sum-commutes = +ℤ_comm;
-  sum-associates = +ℤ_assoc;
-  sum-zero = +ℤ_idr;
-  sum-negated = +ℤ_invr;
+  sum_commutes = +ℤ_comm;
+  sum_associates = +ℤ_assoc;
+  sum_zero = +ℤ_idr;
+  sum_negated = +ℤ_invr;
   difference = λ a b. refl;
-  product-commutes = *ℤ_comm;
-  product-associates = *ℤ-assoc;
-  product-one = *ℤ-idr;
-  product-distributes = *ℤ-distributes-left;
+  product_commutes = *ℤ_comm;
+  product_associates = *ℤ-assoc;
+  product_one = *ℤ-idr;
+  product_distributes = *ℤ-distributes-left;
 }

@@ -16,17 +16,16 @@
 -- `form (gap goal ⊖ stated known c)`, in the same way as for identities.
 -- Assumes nothing.
 use mathlib.Core.Path.{◌≡◌, refl, sym, ap, ◌∙◌, subst}
-use mathlib.Core.Bool.{Bool, true, false, ◌&&◌, ◌||◌, false≢true}
+use mathlib.Core.Bool.{Bool, true, false, ◌&&◌, ◌||◌}
 use mathlib.Core.List.{List, [], ◌∷◌}
 use mathlib.Core.Logic.{◌⊎◌, inl, inr, ⊎_elim}
 use Prim.Native.Nat.{ℕ, zero, suc, ◌<◌}
 use native.Mathlib.Omega.{arith}
-use lib.Dec.{T, ltb, ltb→lt}
-use lib.ListN.{get_or}
+use lib.Dec.{T, ltb→lt}
 use lib.IntN.{ℤ, pos, ◌+ℤ◌, ◌-ℤ◌, ◌*ℤ◌, *ℤ-zero}
-use lib.Signed.{◌<ℤ◌, ◌≤ℤ◌, <ℤ_irrefl, ≤ℤ_refl}
+use lib.Signed.{◌<ℤ◌, ◌≤ℤ◌, <ℤ_irrefl}
 use borrow.Author.Differences.{ints}
-use Rattle.algebra.specs.Expressions.{Expression, number, ◌⊕◌, ◌⊖◌, ◌⊗◌, value}
+use Rattle.algebra.specs.Expressions.{Expression, number, ◌⊗◌, value}
 use Rattle.algebra.specs.Forms.{same_form}
 use Rattle.algebra.specs.Certificates.{Fact, ◌≼◌, ◌≺◌, ◌≈◌, Holds, AllHold, Certificate, given, natural, square, ◌⊞◌, ◌⊠◌, lowered, multiple, fact_at, gap, is_strict, is_equation, stated, is_above_zero, is_at_least_zero, is_zero_sum, suits, proves}
 use Rattle.algebra.specs.Promises.{CertificatesHold}

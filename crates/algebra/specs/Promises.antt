@@ -3,7 +3,7 @@
 use Rattle.std.specs.Prelude.{◌≡◌, true, false, List, [], ◌∷◌, ℤ, pos}
 use Rattle.algebra.specs.Expressions.{Expression, unknown, number, ◌⊕◌, ◌⊖◌, ◌⊗◌, value}
 use Rattle.algebra.specs.Forms.{same_form}
-use Rattle.algebra.specs.Certificates.{Fact, ◌≼◌, ◌≺◌, Holds, AllHold, Certificate, given, natural, square, ◌⊞◌, ◌⊠◌, proves}
+use Rattle.algebra.specs.Certificates.{Fact, ◌≼◌, ◌≺◌, Holds, AllHold, Certificate, given, natural, square, ◌⊞◌, proves}
 
 abbrev x : Expression
 x = unknown 0

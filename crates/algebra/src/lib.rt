@@ -1,5 +1,7 @@
 // What the integers obey, for proofs about exact coordinates: they are an ordered commutative ring, and the two checkers of
 // polynomial identities and of signs accept nothing false.
+#![tactic(auto)]
+
 ghost use Rattle.std.specs.Prelude.{◌≡◌};
 ghost use Rattle.algebra.specs.Laws.{RingLaws, OrderLaws};
 ghost use Rattle.algebra.specs.Promises.{IdentitiesHold, CertificatesHold};

@@ -1,4 +1,6 @@
 // The hashes under C's names, for the benchmark to link.
+#![tactic(auto)]
+
 mod exported_blake2s;
 mod exported_sha256;
 

@@ -1,5 +1,5 @@
 -- The mixings of a round, and one round more.
-use Rattle.std.proofs.Common.{◌≡◌, ℕ, suc, ◌+◌, List, sym, refl, ap, ◌∙◌, add-one}
+use Rattle.std.proofs.Common.{◌≡◌, ℕ, ◌+◌, List, sym, refl, ap, ◌∙◌, add-one}
 use Rattle.blake2s.specs.Mixing.{G, columns, diagonals, rounds}
 
 pub mixed : (made v w : List ℕ) (a b c d x y p q : ℕ) → made ≡ G w a b c d x y → w ≡ v → x ≡ p → y ≡ q → made ≡ G v a b c d p q

@@ -1,10 +1,9 @@
 -- The state of a digest in the making, from part to part.
-use Rattle.std.proofs.Common.{◌≡◌, ℕ, zero, suc, ◌+◌, ◌-◌, ◌*◌, ◌/◌, ◌%◌, ◌<◌, ◌≤◌, false, List, [], ◌∷◌, ◌++◌, length, take, drop, sym, refl, ap, ◌∙◌, add-one, arith}
-use Rattle.std.specs.Simd.{first_chunks}
+use Rattle.std.proofs.Common.{◌≡◌, ℕ, zero, suc, ◌+◌, ◌-◌, ◌*◌, ◌/◌, ◌%◌, ◌<◌, ◌≤◌, false, List, ◌++◌, length, take, drop, sym, refl, ap, ◌∙◌, arith}
 use Rattle.std.proofs.lemmas.List.{length-append, length-drop, take_at, take_all, take-append-le, drop_at, drop-drop, drop-append-le}
 use Rattle.digest.proofs.Writes.{written}
 use Rattle.blake2s.specs.Mixing.{F}
-use Rattle.blake2s.specs.Standard.{first_state, after, block_of, earlier}
+use Rattle.blake2s.specs.Standard.{after, block_of, earlier}
 use Rattle.blake2s.specs.Parts.{Taken, Flushed}
 use Rattle.blake2s.specs.declared.state.Blake2s.{Blake2s}
 

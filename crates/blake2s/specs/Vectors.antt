@@ -1,5 +1,5 @@
 -- Digests that are published with the standard (appendix B) and with its reference code.
-use Rattle.std.specs.Prelude.{◌≡◌, List, [], ◌∷◌}
+use Rattle.std.specs.Prelude.{◌≡◌, [], ◌∷◌}
 use Rattle.blake2s.specs.Standard.{blake2s}
 
 abbrev pub EmptyMessage : Type 0

@@ -1,4 +1,6 @@
 // BLAKE2s-256 without a key, as RFC 7693 defines it.
+#![tactic(auto)]
+
 mod blocks;
 mod compression;
 mod constants;

@@ -1,12 +1,12 @@
 -- The words that begin a command with bytes begin no other.
-use Rattle.std.proofs.Common.{◌≡◌, ℕ, Bool, true, false, cond, ltb, List, [], ◌∷◌, length, is_some, Some, None, codes, sym, refl, ap, ◌∙◌, arith}
+use Rattle.std.proofs.Common.{◌≡◌, ℕ, Bool, true, false, cond, ltb, List, [], ◌∷◌, length, is_some, None, codes, sym, refl, ap, ◌∙◌}
 use Rattle.std.proofs.lemmas.Slice.Eq.{bytes_eq-Decides}
 use Rattle.std.proofs.lemmas.Bool.{cond-false, false≢true}
 use Rattle.std.specs.Str.{bytes_eq}
 use Rattle.script.specs.declared.command.ChartKind.{ChartKind}
 use Rattle.script.specs.Command.{read_command, read_words}
 use Rattle.script.specs.Words.{words_of}
-use Rattle.byte_commands.specs.Read.{read_byte_command, read_byte_words, read_digest}
+use Rattle.byte_commands.specs.Read.{read_byte_command, read_byte_words}
 
 other_verb : (kind : ChartKind) (verb name : List ℕ) (rest : List (List ℕ)) → read_words kind (name ∷ rest) ≡ None → is_some (read_words kind (verb ∷ rest)) ≡ true → bytes_eq verb name ≡ false
 other_verb kind verb name rest none some = go (bytes_eq verb name) refl

@@ -1,7 +1,7 @@
 -- The table of commands that carry bytes: which words make up each, and what it says.
 use Rattle.std.specs.Prelude.{ℕ, cond, List, [], ◌∷◌, length, is_some, Some, None, codes, Option, nat_lt}
 use Rattle.std.specs.Str.{bytes_eq}
-use Rattle.hex.specs.Hex.{bytes_of}
+use Rattle.hex_text.specs.Hex.{bytes_of}
 use Rattle.script.specs.Number.{and_then}
 use Rattle.script.specs.Words.{words_of}
 use Rattle.script.specs.Fields.{at_end}

@@ -6,7 +6,7 @@ ghost use Rattle.byte_commands.specs.Asked.{asked};
 ghost use Rattle.byte_commands.specs.Read.{first_hex, read_byte_command, read_digest};
 
 use crate::command::ByteCommand;
-use hex::decode::decoded_length;
+use hex_text::decode::decoded_length;
 use script::read::LONGEST_LINE;
 use script::words::Words;
 use script::{hash_named, same};

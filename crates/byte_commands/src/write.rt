@@ -3,7 +3,7 @@ ghost use Rattle.script.specs.Growth.{Appended, Grown};
 ghost use Rattle.script.specs.Lines.{ended};
 ghost use Rattle.byte_commands.specs.Lines.{line_of_digest};
 
-use hex::encode::encode;
+use hex_text::encode::encode;
 use script::write::finish_line;
 use std::alloc::AllocError;
 

@@ -1,11 +1,10 @@
 -- What the commands of a run have made, and what each line prints.
-use Rattle.std.specs.Prelude.{ℕ, List, [], ◌∷◌, ◌++◌, ℤ, Some, None, Ok, Err, Option, Result, unsigned_abs}
+use Rattle.std.specs.Prelude.{ℕ, List, [], ℤ, Some, None, Ok, Err, Option, Result, unsigned_abs}
 use Rattle.std.specs.List.{flat_map}
 use Rattle.refusal.specs.declared.Refusal.{Refusal}
 use Rattle.records.specs.declared.raw.EdgeRecord.{EdgeRecord}
 use Rattle.records.specs.declared.raw.SiteRecord.{SiteRecord}
 use Rattle.records.specs.declared.raw.Point.{Point}
-use Rattle.records.specs.declared.raw.Rectangle.{Rectangle}
 use Rattle.records.specs.Held.{put_in, taken_out, remove_refusal}
 use Rattle.records.specs.Outcome.{unless_refused}
 use Rattle.zones.specs.Edges as edges
@@ -18,7 +17,7 @@ use Rattle.slabs.specs.Topmost.{zone_at}
 use Rattle.digest.specs.Hashing.{hashed}
 use Rattle.sha256.specs.Standard.{sha256}
 use Rattle.blake2s.specs.Standard.{blake2s}
-use Rattle.hex.specs.Hex.{bytes_in}
+use Rattle.hex_text.specs.Hex.{bytes_in}
 use Rattle.byte_commands.specs.Asked.{Asked, digest}
 use Rattle.byte_commands.specs.Lines.{line_of_digest}
 use Rattle.byte_commands.specs.Read.{read_byte_command}

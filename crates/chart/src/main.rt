@@ -1,4 +1,6 @@
 //! Reads commands from standard input, one to a line, and prints what each does.
+#![tactic(auto)]
+
 mod session;
 
 use session::Session;

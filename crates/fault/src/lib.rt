@@ -1,4 +1,5 @@
 //! The fault of a check: what each layer reports, carried up whole into one report.
+#![tactic(auto)]
 
 mod conversions;
 mod layers;

@@ -1,5 +1,5 @@
 -- Which raw records become edges.
-use Rattle.std.proofs.Common.{◌≡◌, ℕ, Bool, true, false, cond, ◌&&◌, ℤ, ◌<ℤ◌, Some, None, Option, sym, refl, ap, ◌∙◌, subst, arith, w32, w64, SFits, to_z, of_z}
+use Rattle.std.proofs.Common.{◌≡◌, Bool, true, false, cond, ℤ, ◌<ℤ◌, Some, None, Option, sym, refl, ap, ◌∙◌, subst, arith, w32, w64, SFits, to_z, of_z}
 use lib.Signed.{lt_z, le_z}
 use Rattle.std.specs.Option.{option_map}
 use Rattle.std.proofs.lemmas.Int.{ints, to_z-of_z}

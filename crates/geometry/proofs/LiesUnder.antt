@@ -58,5 +58,5 @@ lying_under_is_ordered_lem =
       transitive = lies_under_transitive;
       asymmetric = lies_under_asymmetric;
       listed = lies_under→listed;
-      from-listed = listed→lies_under;
+      from_listed = listed→lies_under;
     }

@@ -1,5 +1,5 @@
 -- The conflict test from its parts.
-use Rattle.std.proofs.Common.{◌≡◌, Bool, true, ◌&&◌, ℤ, sym, ap, ◌∙◌, w32, w64, SFits, to_z, of_z}
+use Rattle.std.proofs.Common.{◌≡◌, Bool, true, ◌&&◌, ℤ, sym, ap, ◌∙◌, w32, SFits, to_z, of_z}
 use lib.Signed.{lt_z}
 use Rattle.std.proofs.lemmas.Int.{to_z-of_z}
 use Rattle.records.specs.declared.raw.EdgeRecord.{EdgeRecord}

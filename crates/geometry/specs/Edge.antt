@@ -1,5 +1,5 @@
 -- Boundary edges: which records are edges, where one covers, its height and its slope.
-use Rattle.std.specs.Prelude.{Bool, ◌&&◌, ◌||◌, ℤ, pos, ◌+ℤ◌, ◌-ℤ◌, ◌*ℤ◌, int_le, int_lt}
+use Rattle.std.specs.Prelude.{Bool, ◌&&◌, ◌||◌, ℤ, ◌+ℤ◌, ◌-ℤ◌, ◌*ℤ◌, int_le, int_lt}
 use Rattle.records.specs.declared.raw.EdgeRecord.{EdgeRecord}
 use Rattle.records.specs.Range.{is_coordinate, is_record_number, is_zone}
 use Rattle.geometry.specs.Fraction.{Ratio, less, level}

@@ -1,5 +1,5 @@
 -- Exact fractions with a positive denominator, compared by cross multiplication.
-use Rattle.std.specs.Prelude.{◌≡◌, Bool, ◌&&◌, ℤ, pos, ◌-ℤ◌, ◌*ℤ◌, int_le, int_lt}
+use Rattle.std.specs.Prelude.{Bool, ◌&&◌, ℤ, pos, ◌-ℤ◌, ◌*ℤ◌, int_le, int_lt}
 
 pub record Ratio : Type 0 where
   pub over : ℤ

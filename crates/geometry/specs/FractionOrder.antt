@@ -1,7 +1,6 @@
 -- The order of fractions.
 use Rattle.std.specs.Prelude.{◌≡◌, Bool, true, false, not, [], ◌∷◌, ℤ, pos, ◌*ℤ◌, ◌≤ℤ◌, ◌<ℤ◌, int_le, int_lt, refl}
-use Rattle.std.proofs.Common.{sym}
-use Rattle.algebra.specs.Expressions.{Expression, unknown, number, ◌⊗◌}
+use Rattle.algebra.specs.Expressions.{unknown, number, ◌⊗◌}
 use Rattle.algebra.specs.Certificates.{◌≼◌, ◌≺◌, given, ◌⊞◌, ◌⊠◌}
 use Rattle.algebra.proofs.Sign.{shows_over}
 use Rattle.algebra.proofs.Order.{int_le→≤ℤ, int_le_false→<ℤ, ≤ℤ→int_le, ≤ℤ-trans, <ℤ→int_lt, ≤ℤ→int_lt_false, <ℤ→≤ℤ}

@@ -1,7 +1,7 @@
 -- Two tests one after the other: by the first, and where it ties by the rest.
 use Rattle.std.specs.Prelude.{◌≡◌, Bool, true, false, not, ◌&&◌, ◌||◌, refl}
 use Rattle.std.proofs.Common.{sym, ap, ◌∙◌}
-use Rattle.std.proofs.lemmas.Bool.{true≢false, and_parts}
+use Rattle.std.proofs.lemmas.Bool.{true≢false}
 
 -- From whether x is at most y by the first test, y at most x by it, and x at most y by the rest.
 abbrev pub in_turn : Bool → Bool → Bool → Bool
@@ -37,10 +37,10 @@ both there back rest p q r = ap (λ (t : Bool). in_turn t back rest) p ∙ ap (�
 pub turn_transitive : (xy yx yz zy xz zx rest-xy rest-yz rest-xz : Bool) → Three xy yx yz zy xz zx → (rest-xy ≡ true → rest-yz ≡ true → rest-xz ≡ true) → in_turn xy yx rest-xy ≡ true → in_turn yz zy rest-yz ≡ true → in_turn xz zx rest-xz ≡ true
 turn_transitive xy yx yz zy xz false rest-xy rest-yz rest-xz t rest p q = refl
 turn_transitive xy yx yz zy xz true rest-xy rest-yz rest-xz t rest p q =
-    let there = turn_first xy yx rest-xy t.xy-total p in
-    let on = turn_first yz zy rest-yz t.yz-total q in
+    let there = turn_first xy yx rest-xy t.xy_total p in
+    let on = turn_first yz zy rest-yz t.yz_total q in
     both xz true rest-xz (t.onward there on) refl
-    (rest (turn_tied xy yx rest-xy (t.tied-yx on refl) p) (turn_tied yz zy rest-yz (t.tied-zy refl there) q))
+    (rest (turn_tied xy yx rest-xy (t.tied_yx on refl) p) (turn_tied yz zy rest-yz (t.tied_zy refl there) q))
 
 -- Each at most the other ties by the rest too.
 pub turn_ties : (xy yx rest-xy rest-yx : Bool) → (yx ≡ false → xy ≡ true) → (xy ≡ false → yx ≡ true) → in_turn xy yx rest-xy ≡ true → in_turn yx xy rest-yx ≡ true → (rest-xy ≡ true) × (rest-yx ≡ true)

@@ -1,11 +1,11 @@
 -- The order of ranks and of crossings.
-use Rattle.std.specs.Prelude.{◌≡◌, Bool, true, false, not, ◌&&◌, ◌||◌, ℤ, pos, ◌<ℤ◌, int_le, refl}
+use Rattle.std.specs.Prelude.{◌≡◌, Bool, true, false, ◌&&◌, ◌||◌, pos, ◌<ℤ◌, int_le}
 use Rattle.std.proofs.Common.{sym, ap, ◌∙◌, arith}
 use Rattle.std.proofs.lemmas.Int.{ints}
 use Rattle.algebra.proofs.Order.{int_le→≤ℤ, ≤ℤ-antisym, <ℤ→0<}
 use Rattle.geometry.specs.declared.crossing.Crossing.{Crossing}
 use Rattle.geometry.specs.Fraction.{Ratio, less, at_most, level}
-use Rattle.geometry.specs.Rank.{Rank, rank_of, slope_at_most, rank_at_most, crossing_at_most, CrossingsAreOrdered}
+use Rattle.geometry.specs.Rank.{Rank, rank_of, slope_at_most, rank_at_most, CrossingsAreOrdered}
 use Rattle.geometry.specs.FractionOrder.{int_le_total, int_le_transitive, at_most_total, at_most_transitive, less_is}
 use Rattle.geometry.specs.Lexicographic.{in_turn, Three, turn_total, turn_transitive, turn_ties}
 
@@ -16,11 +16,11 @@ in_turn_lem p q rest = ap (λ (t : Bool). t || level p q && rest) (less_is p q)
 pub three : (p q r : Ratio) → pos 0 <ℤ p.under → pos 0 <ℤ q.under → pos 0 <ℤ r.under → Three (at_most p q) (at_most q p) (at_most q r) (at_most r q) (at_most p r) (at_most r p)
 three p q r a b c =
     record {
-      xy-total = at_most_total q p;
-      yz-total = at_most_total r q;
+      xy_total = at_most_total q p;
+      yz_total = at_most_total r q;
       onward = at_most_transitive p q r a b c;
-      tied-yx = at_most_transitive q r p b c a;
-      tied-zy = at_most_transitive r p q c a b;
+      tied_yx = at_most_transitive q r p b c a;
+      tied_zy = at_most_transitive r p q c a b;
     }
 
 -- Both fractions of a rank have a positive denominator.

@@ -1,6 +1,6 @@
 -- Four bytes and the integer that they represent, both ways.
-use Rattle.std.proofs.Common.{◌≡◌, ℕ, zero, suc, ◌+◌, ◌-◌, ◌*◌, ◌/◌, ◌%◌, ◌^◌, ◌<◌, ◌≤◌, List, [], ◌∷◌, get_or, ℤ, pos, negsuc, sym, refl, ap, ◌∙◌, mod-eq_of_lt, arith, lit<, w32, SFits, to_z, of_z}
-use Rattle.std.proofs.lemmas.Nat.{shr-shr, div-add-mod', div_below, mod_below, shr_high, mod_low}
+use Rattle.std.proofs.Common.{◌≡◌, ℕ, ◌+◌, ◌*◌, ◌/◌, ◌%◌, ◌^◌, ◌<◌, [], ◌∷◌, ℤ, pos, negsuc, sym, refl, ap, ◌∙◌, mod-eq_of_lt, arith, lit<, w32, SFits, of_z}
+use Rattle.std.proofs.lemmas.Nat.{shr-shr, div-add-mod', div_below, shr_high, mod_low}
 use Rattle.std.proofs.lemmas.Int.{to_z-of_z, of_z-to_z}
 use Rattle.node.specs.Xdr.{xdr_uint, twos_complement, xdr_int, uint_of, signed_of, int_of}
 

@@ -1,5 +1,6 @@
 //! Nodes and their strings: kinds and shapes, strings written and read back as XDR, the reader of
 //! a proof, and the faults that a check reports.
+#![tactic(auto)]
 
 mod kind;
 mod shape;

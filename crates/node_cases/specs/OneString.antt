@@ -2,7 +2,7 @@
 use Rattle.std.specs.Prelude.{ℕ, List, Some, None, Ok, Err, Option, Result}
 use Rattle.node.specs.Kinds.{kind_numbered, shape_of}
 use Rattle.node.specs.declared.kind.Kind.{Kind}
-use Rattle.reader.specs.Reading.{Position, opened, read_kind, read_string, finished}
+use Rattle.reader.specs.Reading.{opened, read_kind, read_string, finished}
 use Rattle.reader.specs.Views.{StringSeen}
 use Rattle.fault.specs.Carrying.{carried, from_reader, from_reader_at_step, from_search_at_string, stamped_step, stamped_string}
 use Rattle.fault.specs.declared.layers.SearchFault.{SearchFault}

@@ -1,5 +1,6 @@
 //! Strings of every kind, written, read back, cut at every byte and damaged; what it prints is
 //! compared with what another program works out.
+#![tactic(auto)]
 
 mod reading;
 mod samples;

@@ -1,12 +1,11 @@
 -- The digests of a string stand in the proof at their places.
-use Rattle.std.proofs.Common.{◌≡◌, ℕ, ◌+◌, ◌-◌, ◌*◌, ◌/◌, ◌<◌, ◌≤◌, ltb, leb, List, length, Some, None, Ok, Option, sym, refl, ap, ◌∙◌, subst, ⊎_elim, arith, lit<}
-use Rattle.std.specs.List.{slice_get}
+use Rattle.std.proofs.Common.{◌≡◌, ℕ, ◌+◌, ◌-◌, ◌*◌, ◌/◌, ◌<◌, ◌≤◌, ltb, leb, List, length, Some, None, sym, ap, ◌∙◌, subst, ⊎_elim, arith, lit<}
 use Rattle.std.proofs.lemmas.Bool.{cond-true, cond-false, le-leb, le-ltb, lt-ltb, cases_lt}
 use Rattle.node.specs.Kinds.{string_length}
 use Rattle.node.specs.Xdr.{uint_of}
 use Rattle.node.specs.declared.shape.Shape.{Shape}
 use Rattle.reader.specs.LookedFor.{digest_from}
-use Rattle.reader.specs.Parts.{part, digests_in}
+use Rattle.reader.specs.Parts.{part}
 use Rattle.reader.specs.Reading.{Position, bytes_left, string_here}
 use Rattle.reader.specs.RoundTrips.{DigestsStandInTheProof}
 use Rattle.reader.specs.Views.{StringSeen, digest_at, digest_place_at}

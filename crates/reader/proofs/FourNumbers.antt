@@ -1,5 +1,5 @@
 -- The four numbers of a view, cut to as many as the string has, are its numbers.
-use Rattle.std.proofs.Common.{◌≡◌, ℕ, ◌≤◌, List, [], ◌∷◌, length, take, ℤ, sym, refl, ap, ◌∙◌, arith}
+use Rattle.std.proofs.Common.{◌≡◌, ◌≤◌, List, [], ◌∷◌, length, take, ℤ, refl, arith}
 use Rattle.std.specs.List.{slice_get}
 use Rattle.reader.specs.Views.{or_zero}
 

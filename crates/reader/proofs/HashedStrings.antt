@@ -1,5 +1,5 @@
 -- A string that was read is hashed to the digest of its node.
-use Rattle.std.proofs.Common.{◌≡◌, ℕ, suc, ◌<◌, ◌≤◌, List, [], ◌∷◌, length, get_or, Ok, sym, ap, ◌∙◌, arith}
+use Rattle.std.proofs.Common.{ℕ, suc, ◌<◌, List, [], ◌∷◌, get_or, Ok, sym, ap, ◌∙◌, arith}
 use Rattle.std.specs.List.{AllByRecursion as All}
 use Rattle.node.proofs.ShortStrings.{short_is_hashed}
 use Rattle.reader.specs.RoundTrips.{IsByte, ReadStringsAreHashed}

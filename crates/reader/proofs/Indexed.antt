@@ -1,12 +1,12 @@
 -- The items of equal size in a list of bytes, by their index.
-use Rattle.std.proofs.Common.{◌≡◌, ℕ, zero, suc, ◌+◌, ◌*◌, ◌/◌, ◌<◌, ◌≤◌, List, [], ◌∷◌, map, length, get_or, take, drop, ℤ, pos, Some, None, sym, refl, ap, ◌∙◌, arith}
+use Rattle.std.proofs.Common.{◌≡◌, ℕ, zero, suc, ◌*◌, ◌/◌, ◌<◌, ◌≤◌, List, [], map, length, drop, pos, Some, None, refl, ap, ◌∙◌, arith}
 use Rattle.std.specs.List.{slice_get}
 use Rattle.std.specs.Simd.{first_chunks}
 use Rattle.std.proofs.lemmas.List.{length-map, get_or-map}
 use Rattle.std.proofs.lemmas.Option.{slice_get-get_or, slice_get_past}
 use Rattle.digest.proofs.Chunks.{get_or_chunked}
 use Rattle.node.specs.Xdr.{int_of}
-use Rattle.reader.specs.Parts.{part, numbers_in, digests_in}
+use Rattle.reader.specs.Parts.{part, numbers_in}
 
 pub chunked_length : (n k : ℕ) (xs : List ℕ) → length (first_chunks n k xs) ≡ k
 chunked_length n zero xs = refl

@@ -1,17 +1,14 @@
 -- What was written is read back.
-use Rattle.std.proofs.Common.{◌≡◌, ℕ, ◌+◌, ◌-◌, ◌*◌, ◌^◌, ◌<◌, ◌≤◌, List, [], ◌∷◌, ◌++◌, length, ℤ, Ok, sym, refl, ap, ◌∙◌, append_assoc, arith, length-append}
-use Rattle.std.specs.List.{AllByRecursion as All}
+use Rattle.std.proofs.Common.{◌≡◌, ◌+◌, ◌*◌, ◌++◌, length, Ok, sym, refl, ap, ◌∙◌, append_assoc, arith, length-append}
 use Rattle.node.specs.Kinds.{string_length}
-use Rattle.node.specs.Sizes.{IsDigest}
 use Rattle.node.specs.Strings.{string_of, xdr_ints, xdr_opaques}
 use Rattle.node.specs.Xdr.{xdr_uint, uint_of}
-use Rattle.node.specs.declared.shape.Shape.{Shape}
 use Rattle.node.proofs.Encodings.{string_length_lem, xdr_ints_length, xdr_opaques_length}
 use Rattle.node.proofs.Integers.{uint_back}
 use Rattle.node.proofs.ShortStrings.{each_digest}
 use Rattle.reader.specs.Parts.{part, numbers_in, digests_in}
 use Rattle.reader.specs.Reading.{Position, bytes_left, string_here}
-use Rattle.reader.specs.RoundTrips.{IsInt, ReadBack, WrittenIsReadBack}
+use Rattle.reader.specs.RoundTrips.{WrittenIsReadBack}
 use Rattle.reader.proofs.Chunking.{numbers_back, digests_back}
 use Rattle.reader.proofs.Outcomes.{kind_read, string_read}
 use Rattle.reader.proofs.PartsOfParts.{part_behind, part_mid}

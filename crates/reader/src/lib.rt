@@ -1,4 +1,5 @@
 //! The strings of a proof, read as borrowed parts of its bytes.
+#![tactic(auto)]
 
 mod digest_lookup;
 mod fault;

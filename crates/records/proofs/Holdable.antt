@@ -1,14 +1,14 @@
 -- What is true of every list of records that a register can hold.
-use Rattle.std.proofs.Common.{◌≡◌, ℕ, suc, ◌<◌, ◌≤◌, Bool, true, false, cond, List, [], ◌∷◌, length, ℤ, Some, None, Option, sym, refl, ap, ◌∙◌, subst, ⊎_elim, arith}
+use Rattle.std.proofs.Common.{◌≡◌, ℕ, ◌<◌, ◌≤◌, Bool, true, false, List, [], ◌∷◌, length, ℤ, None, Option, sym, refl, ap, ◌∙◌, subst, ⊎_elim, arith}
 use lib.Signed.{lt_z, le_z}
-use Rattle.std.specs.List.{ContainsAt as Has, AllByRecursion as All}
+use Rattle.std.specs.List.{AllByRecursion as All}
 use Rattle.std.proofs.lemmas.Int.{ints}
 use Rattle.std.proofs.lemmas.Bool.{cases_Bool, cond-true, cond-false, or_parts, and_parts, and_from}
 use Rattle.refusal.specs.declared.Refusal.{Refusal}
-use Rattle.slices.specs.Order.{IsTransitive, at_most_each, placed, rising}
+use Rattle.slices.specs.Order.{IsTransitive, at_most_each, rising}
 use Rattle.slices.proofs.Placing.{all_placed, length_placed, rising_placed_by}
 use Rattle.slices.proofs.Tests.{all_from_at_most_each, at_most_each_from_all}
-use Rattle.records.specs.Held.{same_number, holds, by_number, put_in, taken_out, remove_refusal, is_before, Holdable, fresh, added, removed}
+use Rattle.records.specs.Held.{same_number, holds, by_number, taken_out, is_before, Holdable, fresh, added, removed}
 use Rattle.records.proofs.Numbers.{differ}
 
 int_lt_trans : (a b c : ℤ) → lt_z a b ≡ true → lt_z b c ≡ true → lt_z a c ≡ true

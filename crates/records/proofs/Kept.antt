@@ -1,6 +1,5 @@
 -- What a value that passed its test, or did not, tells of the test.
-use Rattle.std.proofs.Common.{◌≡◌, Bool, true, false, cond, ℤ, Some, None, Option, sym, refl, ap, ◌∙◌}
-use Rattle.std.proofs.lemmas.Bool.{cases_Bool}
+use Rattle.std.proofs.Common.{◌≡◌, Bool, true, false, cond, ℤ, Some, None, refl}
 use Rattle.records.specs.Range.{kept_by}
 
 -- what came of a choice tells how it fell

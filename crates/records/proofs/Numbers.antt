@@ -1,6 +1,5 @@
 -- Whether two numbers are the same, as a test and as an equation.
-use Rattle.std.proofs.Common.{◌≡◌, Bool, true, false, ◌⊎◌, ℤ, sym, refl, ap, ◌∙◌, subst, inl, inr, arith, SFits, to_z, of_z}
-use lib.Signed.{le_z}
+use Rattle.std.proofs.Common.{◌≡◌, Bool, true, false, ℤ, sym, ap, ◌∙◌, arith, SFits, to_z, of_z}
 use mir.Syntax.{Width}
 use Rattle.std.proofs.lemmas.Int.{ints, to_z-of_z}
 use Rattle.records.specs.Held.{same_number}

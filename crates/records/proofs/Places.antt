@@ -1,8 +1,7 @@
 -- The search for the place of a number, from left to right.
-use Rattle.std.proofs.Common.{◌≡◌, ℕ, suc, ◌+◌, ◌<◌, true, false, List, [], ◌∷◌, length, get_or, drop, ℤ, Some, None, sym, refl, ap, ◌∙◌, subst, add-one, drop-cons}
-use Rattle.std.proofs.lemmas.List.{drop_all}
+use Rattle.std.proofs.Common.{◌≡◌, ℕ, suc, ◌+◌, ◌<◌, List, ◌∷◌, length, get_or, drop, ℤ, Some, sym, ap, ◌∙◌, add-one, drop-cons}
 use Rattle.std.proofs.lemmas.Bool.{cond-true, cond-false}
-use Rattle.records.specs.Held.{place_from, same_number}
+use Rattle.records.specs.Held.{place_from}
 use Rattle.records.proofs.Numbers.{same_yes, same_no}
 
 module _ {R : Type 0} (number_of : R → ℤ) (n : ℤ) (rs : List R) (i : ℕ) (r : R) (inside : i < length rs) (is : r ≡ get_or rs i r) where

@@ -1,11 +1,11 @@
 -- A removal from a register, by the records that it holds.
-use Rattle.std.proofs.Common.{◌≡◌, ℕ, ◌-◌, ◌<◌, ◌≤◌, Bool, true, false, cond, ◌||◌, List, [], ◌∷◌, ◌++◌, map, length, take, drop, ℤ, Some, None, Option, sym, refl, ap, ◌∙◌, subst, ⊎_elim, arith}
+use Rattle.std.proofs.Common.{◌≡◌, ℕ, ◌-◌, ◌<◌, Bool, true, false, cond, ◌||◌, List, [], ◌∷◌, map, length, take, drop, ℤ, Some, None, Option, sym, refl, ap, ◌∙◌, ⊎_elim, arith}
 use Rattle.std.proofs.lemmas.List.{take_at}
 use Rattle.std.proofs.lemmas.Bool.{cases_Bool, cond-true, cond-false, true≢false}
 use Rattle.refusal.specs.declared.Refusal.{Refusal}
 use Rattle.refusal.specs.declared.Refusal.TheVariants.{NumberNotHeld}
 use Rattle.records.specs.Held.{same_number, holds, left_of, taken_out, remove_refusal}
-use Rattle.records.specs.Outcome.{answered, unless_refused}
+use Rattle.records.specs.Outcome.{unless_refused}
 use Rattle.records.proofs.Held.{holds_raw, taken_out_lem}
 use Rattle.records.proofs.Outcome.{Outcome, outcome}
 

@@ -1,4 +1,6 @@
 //! The table of refusals: why a call was turned down, one case for each reason.
+#![tactic(auto)]
+
 ghost use Rattle.std.specs.Prelude.{◌≡◌};
 ghost use Rattle.refusal.specs.Table.{number_of, words_of};
 

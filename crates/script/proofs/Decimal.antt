@@ -1,5 +1,5 @@
 -- A number as it is written, read again.
-use Rattle.std.proofs.Common.{◌≡◌, ℕ, suc, ◌+◌, ◌-◌, ◌*◌, ◌/◌, ◌%◌, ◌^◌, ◌<◌, ◌≤◌, Bool, true, false, cond, eqb, leb, List, [], ◌∷◌, ◌++◌, length, ℤ, pos, negsuc, neg_ℤ, Some, None, decimal, Option, sym, refl, ap, ◌∙◌, mod-lt, div-add-mod', arith, lit<}
+use Rattle.std.proofs.Common.{◌≡◌, ℕ, suc, ◌+◌, ◌-◌, ◌*◌, ◌/◌, ◌%◌, ◌^◌, ◌<◌, ◌≤◌, Bool, true, false, cond, eqb, leb, List, [], ◌∷◌, ◌++◌, length, ℤ, pos, negsuc, neg_ℤ, Some, None, decimal, refl, ap, ◌∙◌, mod-lt, div-add-mod', arith, lit<}
 use lib.Signed.{mag}
 use Rattle.std.proofs.lemmas.Fmt.{decimal_by_steps, decimal_nonempty, length_signed_le}
 use Rattle.std.proofs.lemmas.List.{append_assoc}
@@ -9,7 +9,7 @@ use Rattle.std.specs.Option.{option_map}
 use Rattle.std.specs.Fmt.{signed_decimal}
 use Rattle.records.specs.Range.{kept_by}
 use Rattle.script.specs.Number.{and_then, digits_after, is_digit, is_number, natural_of, number_of, signed_of}
-use Rattle.script.specs.Words.{before_first, begins_comment, is_separator}
+use Rattle.script.specs.Words.{before_first}
 use Rattle.script.proofs.Magnitude.{digit_in}
 use Rattle.script.proofs.Pieces.{cut, cut_plain, onto, onto_push}
 

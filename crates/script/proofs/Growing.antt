@@ -1,7 +1,7 @@
 -- One part of a line after another.
-use Rattle.std.proofs.Common.{◌≡◌, ℕ, ◌+◌, ◌<◌, ◌≤◌, Bool, true, false, cond, List, [], ◌∷◌, ◌++◌, length, take, is_ok, is_err, Ok, Err, vec_items, vec_len, vec_capacity, Result, Vec, sym, refl, ap, ◌∙◌, subst, inl, inr, arith, length-append, MatchResult}
+use Rattle.std.proofs.Common.{◌≡◌, ℕ, ◌+◌, ◌<◌, ◌≤◌, Bool, true, false, cond, List, [], ◌∷◌, ◌++◌, length, take, is_ok, is_err, Ok, Err, vec_items, vec_len, vec_capacity, Result, Vec, sym, refl, ap, ◌∙◌, subst, inl, inr, arith, length-append, OnErr}
 use Rattle.std.proofs.lemmas.List.{append_assoc, append-nil, take_at, take-take, take_all}
-use Rattle.std.proofs.lemmas.Bool.{true≢false, false≢true, cases_lt, cond-true, cond-false}
+use Rattle.std.proofs.lemmas.Bool.{true≢false, false≢true, cases_lt}
 use Rattle.std.specs.declared.alloc.AllocError.{AllocError}
 use Rattle.script.specs.Growth.{Appended, Finished, Grown}
 
@@ -11,7 +11,7 @@ err_not_ok (Err x) fails h = false≢true h
 
 module _ {Z : Type 0} where
   -- what a single call of the vector says
-  pub grown_once : (a b : Vec ℕ Z) (bytes : List ℕ) (r : Result (Unit {0}) AllocError) → vec_len a ≡ length (vec_items a) → vec_items b ≡ cond (is_ok r) (vec_items a ++ bytes) (vec_items a) → MatchResult r (λ _. vec_len b ≡ vec_len a + length bytes) (λ _. vec_capacity a < vec_len a + length bytes) → vec_capacity a ≤ vec_capacity b → Grown a bytes r b
+  pub grown_once : (a b : Vec ℕ Z) (bytes : List ℕ) (r : Result (Unit {0}) AllocError) → vec_len a ≡ length (vec_items a) → vec_items b ≡ cond (is_ok r) (vec_items a ++ bytes) (vec_items a) → OnErr r (vec_capacity a < vec_len a + length bytes) → vec_capacity a ≤ vec_capacity b → Grown a bytes r b
   grown_once a b bytes (Ok x) long items cases room =
       record { grows = λ _. items; keeps = ap (take (length (vec_items a))) items ∙ take_at (vec_items a) bytes _ refl; lacks = λ e. absurd (true≢false e); room = room }
   grown_once a b bytes (Err x) long items cases room =
@@ -81,7 +81,7 @@ module _ {Z : Type 0} where
         lacks = λ _ e. absurd (true≢false (sym e ∙ fails));
       }
 
-  pub not_ended : (b m n c : Vec ℕ Z) (start : ℕ) (written r : Result (Unit {0}) AllocError) (x : AllocError) → vec_len b ≡ length (vec_items b) → is_ok r ≡ false → vec_items n ≡ cond (is_ok r) (vec_items b ++ (10 ∷ [])) (vec_items b) → MatchResult r (λ _. vec_len n ≡ vec_len b + 1) (λ _. vec_capacity b < vec_len b + 1) → m ≡ n → vec_items c ≡ take start (vec_items m) → Finished b start written (Err x) c
+  pub not_ended : (b m n c : Vec ℕ Z) (start : ℕ) (written r : Result (Unit {0}) AllocError) (x : AllocError) → vec_len b ≡ length (vec_items b) → is_ok r ≡ false → vec_items n ≡ cond (is_ok r) (vec_items b ++ (10 ∷ [])) (vec_items b) → OnErr r (vec_capacity b < vec_len b + 1) → m ≡ n → vec_items c ≡ take start (vec_items m) → Finished b start written (Err x) c
   not_ended b m n c start written (Ok y) x long fails items cases same cut = absurd (true≢false fails)
   not_ended b m n c start written (Err y) x long fails items cases same cut =
       record {
@@ -93,7 +93,7 @@ module _ {Z : Type 0} where
   -- a part that is written whole or not at all
   pub grown_whole : (a b : Vec ℕ Z) (bytes : List ℕ) (r : Result (Unit {0}) AllocError) → vec_len a ≡ length (vec_items a) → vec_len b ≡ length (vec_items b) → vec_items b ≡ cond (is_ok r) (vec_items a ++ bytes) (vec_items a) → (vec_len a + length bytes ≤ vec_capacity a → is_ok r ≡ true) → vec_capacity a ≤ vec_capacity b → Grown a bytes r b
   grown_whole a b bytes (Ok x) long-a long-b items succeeds room =
-      grown_once a b bytes (Ok x) long-a items (omega (arith, ap length items, length-append (vec_items a) bytes)) room
+      grown_once a b bytes (Ok x) long-a items tt room
   grown_whole a b bytes (Err x) long-a long-b items succeeds room = grown_once a b bytes (Err x) long-a items lacks room
     where
       lacks : vec_capacity a < vec_len a + length bytes

@@ -1,20 +1,19 @@
 -- A listed record, read again.
-use Rattle.std.proofs.Common.{◌≡◌, ℕ, ◌+◌, ◌*◌, ◌<◌, ◌≤◌, Bool, true, false, cond, ltb, List, [], ◌∷◌, ◌++◌, map, length, ℤ, Some, None, codes, Option, sym, refl, ap, ◌∙◌, inl, arith, length-append}
+use Rattle.std.proofs.Common.{◌≡◌, ℕ, ◌*◌, ◌≤◌, true, ltb, List, [], ◌∷◌, ◌++◌, map, length, ℤ, Some, None, codes, refl, ap, ◌∙◌, inl, arith, length-append}
 use Rattle.std.proofs.lemmas.Bool.{and_parts, cond-false, le-ltb}
 use Rattle.std.specs.Option.{option_map}
 use Rattle.std.specs.Fmt.{signed_decimal}
 use Rattle.std.specs.List.{flat_map}
 use Rattle.script.specs.declared.command.ChartKind.{ChartKind}
 use Rattle.script.specs.declared.command.ChartKind.TheVariants.{Zone, Site}
-use Rattle.script.specs.declared.command.Command.{Command}
 use Rattle.script.specs.declared.command.Command.TheVariants.{AddEdge, AddSite}
 use Rattle.script.specs.Command.{read_add, read_command, read_edge, read_site, read_words}
-use Rattle.script.specs.Lines.{field, line_of_edge, line_of_site, numbers_of_edge, numbers_of_site, with_numbers}
+use Rattle.script.specs.Lines.{field, numbers_of_edge, numbers_of_site, with_numbers}
 use Rattle.script.specs.Number.{is_number, number_of}
 use Rattle.script.specs.ReadBack.{ListedEdgesReadBack, ListedSitesReadBack, all_numbers}
 use Rattle.script.specs.Words.{without_empty, words_of}
 use Rattle.script.proofs.Decimal.{cut_signed, number_signed, signed_short, signed_some}
-use Rattle.script.proofs.Pieces.{Ends, cut, cut_separator, onto, words_of_word}
+use Rattle.script.proofs.Pieces.{Ends, cut_separator, words_of_word}
 
 fields_end : (zs : List ℤ) → Ends (flat_map field zs)
 fields_end [] = tt

@@ -1,5 +1,5 @@
 -- Lines that are made of two parts.
-use Rattle.std.proofs.Common.{◌≡◌, ℕ, ◌<◌, List, [], ◌∷◌, ◌++◌, pos, codes, sym, refl, ap, ◌∙◌, arith, w64, to_z}
+use Rattle.std.proofs.Common.{◌≡◌, ℕ, ◌<◌, List, [], ◌∷◌, ◌++◌, pos, codes, sym, ap, ◌∙◌, arith, w64, to_z}
 use Rattle.std.proofs.lemmas.Int.{to_z_pos}
 use Rattle.refusal.specs.Table as table
 use Rattle.refusal.specs.declared.Refusal.{Refusal}

@@ -1,5 +1,5 @@
 -- The table of commands: which words make up each, and what it says.
-use Rattle.std.specs.Prelude.{ℕ, cond, List, [], ◌∷◌, length, ℤ, Some, None, codes, Option, nat_lt}
+use Rattle.std.specs.Prelude.{ℕ, cond, List, [], ◌∷◌, length, Some, None, codes, Option, nat_lt}
 use Rattle.std.specs.Option.{option_map}
 use Rattle.std.specs.Str.{bytes_eq}
 use Rattle.records.specs.declared.raw.EdgeRecord.{EdgeRecord}
@@ -12,7 +12,7 @@ use Rattle.script.specs.declared.command.HashName.{HashName}
 use Rattle.script.specs.declared.command.HashName.TheVariants.{Sha256, Blake2s}
 use Rattle.script.specs.declared.command.Command.{Command}
 use Rattle.script.specs.declared.command.Command.TheVariants.{Begin, AddEdge, AddSite, Remove, AnswerZone, AnswerSites, List as Records, Blank}
-use Rattle.script.specs.Number.{and_then, number_of}
+use Rattle.script.specs.Number.{and_then}
 use Rattle.script.specs.Words.{words_of}
 use Rattle.script.specs.Fields.{with_number, at_end}
 

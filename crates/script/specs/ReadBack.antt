@@ -1,5 +1,5 @@
 -- The line by which a record is listed adds that record again.
-use Rattle.std.specs.Prelude.{◌≡◌, ℕ, Bool, true, ◌&&◌, List, [], ◌∷◌, ℤ, Some}
+use Rattle.std.specs.Prelude.{◌≡◌, Bool, true, ◌&&◌, List, [], ◌∷◌, ℤ, Some}
 use Rattle.records.specs.declared.raw.EdgeRecord.{EdgeRecord}
 use Rattle.records.specs.declared.raw.SiteRecord.{SiteRecord}
 use Rattle.script.specs.declared.command.ChartKind.TheVariants.{Zone, Site}

@@ -1,4 +1,6 @@
 //! The command lines of the program, and the lines that it answers with.
+#![tactic(auto)]
+
 pub mod append;
 pub mod command;
 mod names;

@@ -1,5 +1,5 @@
 -- The draft of a rose is its figure, record by record.
-use Rattle.std.proofs.Common.{◌≡◌, ℕ, zero, suc, ◌+◌, ◌<◌, ◌≤◌, min, Bool, true, false, cond, ◌&&◌, eqb, leb, List, [], ◌∷◌, ◌++◌, map, length, take, drop, replicate, ℤ, pos, Some, None, Ok, Err, Decides, Option, Result, sym, refl, ap, ◌∙◌, subst, arith, length-append}
+use Rattle.std.proofs.Common.{◌≡◌, ℕ, suc, ◌≤◌, min, Bool, true, false, cond, eqb, leb, List, [], ◌∷◌, ◌++◌, map, length, take, drop, replicate, pos, Some, None, Ok, Err, Option, Result, sym, refl, ap, ◌∙◌, subst, arith}
 use Rattle.std.specs.List.{AllByRecursion as All}
 use Rattle.std.proofs.ByRecursion.{All-push}
 use Rattle.std.proofs.lemmas.List.{take-take, take-append-le, take_all, map-append, length-map, take-map}
@@ -17,8 +17,8 @@ use Rattle.search.specs.Laws.{JudgesWell}
 use Rattle.search.specs.Rose.{Rose, Roses, grown, end, more, how_many}
 use Rattle.search.specs.Making.{agree, alike, alike_from, place_of_alike, Made, MadeEach, found_or_next, made_node, made, made_each, figure_of}
 use Rattle.search.specs.Sheet.{filled_to, record_of, usable, drawn_sheet, drawn_count}
-use Rattle.search.specs.Visit.{Fits, FitsWhole, FitEach}
-use Rattle.search.specs.Drafting.{alike_records, alike_record_from, place_of_alike_record, Draft, DraftEach, found_or_added, drafted_record, drafted, drafted_each, drawn_so_far, sheet_with, draft_answer, counted, DraftsAreFigures}
+use Rattle.search.specs.Visit.{FitsWhole, FitEach}
+use Rattle.search.specs.Drafting.{alike_records, alike_record_from, Draft, DraftEach, found_or_added, drafted_record, drafted, drafted_each, drawn_so_far, sheet_with, draft_answer, counted, DraftsAreFigures}
 use Rattle.search.proofs.Places.{some_same}
 use Rattle.search.proofs.Growing.{node, alike_same, eqb_same}
 use Rattle.search.proofs.Rooted.{root_is_last_lem}

@@ -1,13 +1,12 @@
 -- Making a rose only adds nodes, and leaves the rose standing at the place answered.
-use Rattle.std.proofs.Common.{◌≡◌, ℕ, zero, suc, ◌+◌, ◌-◌, ◌<◌, ◌≤◌, max, Bool, true, false, cond, ◌&&◌, eqb, ◌⊎◌, List, [], ◌∷◌, ◌++◌, length, ℤ, Some, None, Option, sym, refl, ap, ◌∙◌, subst, inl, inr, ⊎_elim, append_assoc, arith, length-append}
+use Rattle.std.proofs.Common.{◌≡◌, ℕ, suc, ◌+◌, ◌<◌, ◌≤◌, Bool, true, false, eqb, ◌⊎◌, List, [], ◌∷◌, ◌++◌, length, ℤ, Some, None, Option, sym, refl, ap, ◌∙◌, subst, inl, inr, ⊎_elim, append_assoc, arith, length-append}
 use Rattle.std.specs.List.{slice_get, AllByRecursion as All}
 use Rattle.std.proofs.lemmas.Bool.{cases_Bool, cases_lt, cond-true, cond-false, and_parts}
-use Rattle.std.proofs.ByRecursion.{All-weaker}
 use Rattle.std.proofs.lemmas.List.{append-nil}
 use Rattle.std.proofs.lemmas.Int.{ints}
 use Rattle.records.specs.Held.{same_number}
 use Rattle.search.specs.Node.{Node}
-use Rattle.search.specs.Rose.{Rose, Roses, grown, end, more, how_many, levels, levels_of_each}
+use Rattle.search.specs.Rose.{Rose, Roses, grown, end, more, how_many}
 use Rattle.search.specs.Making.{agree, alike, alike_from, place_of_alike, Made, MadeEach, found_or_next, made_node, made, made_each, Stands, StandEach}
 use Rattle.search.proofs.Places.{not_both, some_same, nth_before, nth_end, nth_bound}
 

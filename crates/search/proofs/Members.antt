@@ -1,5 +1,4 @@
 -- Two registers with the same members hold the same list.
-use Rattle.std.proofs.Common.{◌≡◌}
 use Rattle.records.specs.Held.{is_before}
 use Rattle.records.proofs.Holdable.{holdable_rising, before_apart}
 use Rattle.slices.proofs.Uniqueness.{same_from_members}

@@ -1,10 +1,10 @@
 -- The root of a rose's figure is its last node.
-use Rattle.std.proofs.Common.{◌≡◌, ℕ, zero, suc, ◌+◌, ◌-◌, ◌<◌, ◌≤◌, max, List, [], ◌∷◌, ◌++◌, length, ℤ, Some, None, Option, sym, refl, ap, ◌∙◌, subst, arith, length-append}
+use Rattle.std.proofs.Common.{◌≡◌, ℕ, suc, ◌<◌, ◌≤◌, List, [], ◌∷◌, length, ℤ, Some, None, Option, sym, refl, ap, ◌∙◌, subst, arith, length-append}
 use Rattle.std.specs.List.{slice_get}
 use Rattle.search.specs.Node.{Node}
 use Rattle.search.specs.Figure.{root_of}
 use Rattle.search.specs.Rose.{Rose, Roses, grown, end, more, levels, levels_of_each}
-use Rattle.search.specs.Making.{place_of_alike, found_or_next, made_node, made, made_each, figure_of, Stands, StandEach, RootIsLast, RosesStandInTheirFigures}
+use Rattle.search.specs.Making.{place_of_alike, found_or_next, made, made_each, figure_of, Stands, StandEach, RootIsLast, RosesStandInTheirFigures}
 use Rattle.search.proofs.Places.{some_same, nth_bound}
 use Rattle.search.proofs.Growing.{node, node_parts, found_alike, Throughout, ThroughoutEach, Covered, IsMade, AreMade, made_rose, made_roses}
 

@@ -1,15 +1,15 @@
 -- Drawing goes on where it stopped: one drawing call after another on one sheet.
-use Rattle.std.proofs.Common.{◌≡◌, ℕ, zero, suc, ◌+◌, ◌-◌, ◌<◌, ◌≤◌, min, Bool, true, false, cond, leb, List, [], ◌∷◌, ◌++◌, length, take, drop, Some, None, Ok, Err, Option, Result, sym, refl, ap, ◌∙◌, subst, ⊎_elim, append_assoc, arith, length-append}
+use Rattle.std.proofs.Common.{◌≡◌, ℕ, ◌<◌, ◌≤◌, min, cond, leb, List, [], ◌∷◌, ◌++◌, length, take, drop, Some, None, Ok, Err, Option, Result, sym, refl, ap, ◌∙◌, ⊎_elim, append_assoc, arith, length-append}
 use Rattle.std.proofs.lemmas.List.{append-nil, length-take, length-drop, take_all, take-append-le}
 use Rattle.std.proofs.lemmas.Slice.{drop-append-drop}
-use Rattle.std.proofs.lemmas.Bool.{cases_Bool, cond-true, cond-false, le-leb, lt-leb, leb-true, leb-false}
+use Rattle.std.proofs.lemmas.Bool.{cases_Bool, cond-true, cond-false, lt-leb, leb-true, leb-false}
 use Rattle.refusal.specs.declared.Refusal.{Refusal}
 use Rattle.refusal.specs.declared.Refusal.TheVariants.{SheetTooSmall}
 use Rattle.search.specs.declared.sheet.SheetRecord.{SheetRecord}
 use Rattle.search.specs.declared.drafting.Drawn.{Drawn}
 use Rattle.search.specs.Rose.{Rose, Roses, grown, end, more}
 use Rattle.search.specs.Sheet.{record_of, usable}
-use Rattle.search.specs.Drafting.{place_of_alike_record, Draft, DraftEach, found_or_added, drafted_record, drafted, drafted_each, drawn_so_far, sheet_with, draft_answer}
+use Rattle.search.specs.Drafting.{place_of_alike_record, Draft, found_or_added, drafted_record, drafted, drafted_each, drawn_so_far, sheet_with, draft_answer}
 use Rattle.search.proofs.Growing.{node}
 use Rattle.search.proofs.Drafts.{Outcome}
 

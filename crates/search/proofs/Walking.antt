@@ -1,21 +1,21 @@
 -- The walk of a rose's figure, and that every walk has one result.
-use Rattle.std.proofs.Common.{◌≡◌, ℕ, zero, suc, ◌+◌, ◌-◌, ◌*◌, ◌<◌, ◌≤◌, max, leb, List, [], ◌∷◌, ◌++◌, length, ℤ, Some, None, Option, sym, refl, ap, ◌∙◌, subst, append_assoc, arith, length-append}
+use Rattle.std.proofs.Common.{◌≡◌, ℕ, zero, suc, ◌+◌, ◌*◌, ◌<◌, ◌≤◌, max, leb, List, [], ◌∷◌, ◌++◌, length, ℤ, Some, Option, sym, refl, ap, ◌∙◌, subst, append_assoc, arith, length-append}
 use Rattle.std.specs.List.{flat_map, slice_get, AllByRecursion as All}
 use Rattle.std.proofs.ByRecursion.{All-weaker}
 use Rattle.std.proofs.lemmas.List.{append-nil}
 use Rattle.slices.specs.Order.{sorted}
 use Rattle.search.specs.Node.{Node, string_bytes, bytes_of}
-use Rattle.search.specs.Judging.{Judging, Judgement, Judgeable}
+use Rattle.search.specs.Judging.{Judging}
 use Rattle.search.specs.Picks.{ahead, picks}
-use Rattle.search.specs.Figure.{Sound, IsFigure, root_of}
-use Rattle.search.specs.Walk.{Walk, ended, taken, most_waiting, WalkFromRoot, judge_node, waiting_after, WalksHaveOneResult}
-use Rattle.search.specs.Honest.{IsHonest, HonestProofsAreUnique, strings_of, digests_of}
+use Rattle.search.specs.Figure.{Sound, root_of}
+use Rattle.search.specs.Walk.{Walk, ended, taken, most_waiting, judge_node, waiting_after, WalksHaveOneResult}
+use Rattle.search.specs.Honest.{HonestProofsAreUnique, strings_of, digests_of}
 use Rattle.search.specs.Laws.{Answers, JudgesWell, longest_proof}
 use Rattle.search.specs.Rose.{Rose, Roses, grown, end, more, how_many, levels, levels_of_each}
-use Rattle.search.specs.Making.{figure_of, made, Stands, StandEach}
-use Rattle.search.specs.Visit.{Fits, FitsWhole, FitEach, visit, visit_each, emits_at, emissions_of, rose_bytes, roses_bytes, NodesOf, crowd_of, crowd, crowd_each, IsWalked, CrowdsAreAllowed, CrowdsAreSmall, RosesAreWalked, RosesMakeFigures}
-use Rattle.search.proofs.Places.{not_both, some_same, nth_bound, length_picks, all_picks, picks_each, ahead_append}
-use Rattle.search.proofs.Growing.{node, node_parts, stand_each_length, Throughout, ThroughoutEach, Covered}
+use Rattle.search.specs.Making.{figure_of, Stands, StandEach}
+use Rattle.search.specs.Visit.{Fits, FitsWhole, FitEach, visit, visit_each, emits_at, emissions_of, rose_bytes, roses_bytes, NodesOf, crowd_of, crowd, crowd_each, CrowdsAreAllowed, CrowdsAreSmall, RosesAreWalked, RosesMakeFigures}
+use Rattle.search.proofs.Places.{some_same, nth_bound, length_picks, all_picks, picks_each, ahead_append}
+use Rattle.search.proofs.Growing.{node, stand_each_length, Throughout, ThroughoutEach}
 use Rattle.search.proofs.Rooted.{figure_made, root_is_last_lem, stands_at_root}
 
 pub walk_same : {Q : Type 0} (judging : Judging Q) (q : Q) (limit : ℕ) (figure : List Node) (waiting : List ℕ) (vs ws : List Node) (es fs : List ℕ)

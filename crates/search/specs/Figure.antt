@@ -1,5 +1,5 @@
 -- Figures: lists of sound nodes, successors before their node, the root last.
-use Rattle.std.specs.Prelude.{◌≡◌, ℕ, ◌-◌, ◌<◌, true, List, length, Some}
+use Rattle.std.specs.Prelude.{◌≡◌, ℕ, ◌-◌, ◌<◌, List, length, Some}
 use Rattle.std.specs.List.{slice_get, AllByRecursion as All}
 use Rattle.node.specs.declared.shape.Shape.{Shape}
 use Rattle.search.specs.Node.{Node}

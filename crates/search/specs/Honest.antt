@@ -1,6 +1,6 @@
 -- The digests of a figure, and the honest proof.
-use Rattle.std.specs.Prelude.{◌≡◌, ℕ, ◌≤◌, List, [], ◌∷◌, ◌++◌, length}
-use Rattle.std.specs.List.{flat_map, slice_get}
+use Rattle.std.specs.Prelude.{◌≡◌, ℕ, List, [], ◌∷◌, ◌++◌, length}
+use Rattle.std.specs.List.{flat_map}
 use Rattle.node.specs.Strings.{string_of}
 use Rattle.search.specs.Node.{Node, bytes_of}
 use Rattle.search.specs.Picks.{picks}

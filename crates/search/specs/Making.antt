@@ -1,7 +1,6 @@
 -- Figures made from roses: the successors of a node are made first, in their order, then the node. A node alike to one made
 -- earlier is that one; any other takes the next place.
-use Rattle.std.specs.Prelude.{◌≡◌, ℕ, suc, ◌<◌, Bool, true, false, cond, ◌&&◌, List, [], ◌∷◌, ◌++◌, length, ℤ, Some, None, Option, ◌==◌, nat_eq}
-use Rattle.std.specs.Int.Signed.{le_z}
+use Rattle.std.specs.Prelude.{◌≡◌, ℕ, suc, ◌<◌, Bool, true, false, cond, ◌&&◌, List, [], ◌∷◌, ◌++◌, length, Some, None, Option, ◌==◌, nat_eq}
 use Rattle.std.specs.List.{slice_get, AllByRecursion as All}
 use Rattle.records.specs.Held.{same_number}
 use Rattle.search.specs.Node.{Node}

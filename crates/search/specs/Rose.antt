@@ -1,5 +1,5 @@
 -- Roses: the trees of which figures are made, before alike nodes are shared.
-use Rattle.std.specs.Prelude.{ℕ, suc, ◌+◌, ◌*◌, max, List, ℤ}
+use Rattle.std.specs.Prelude.{ℕ, suc, max, List, ℤ}
 
 mutual
   pub data Rose : Type 0 where

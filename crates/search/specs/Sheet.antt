@@ -1,5 +1,5 @@
 -- Nodes in the records of a sheet.
-use Rattle.std.specs.Prelude.{ℕ, min, cond, List, ◌++◌, map, length, take, drop, replicate, ℤ, pos, Ok, Err, Result, nat_le}
+use Rattle.std.specs.Prelude.{ℕ, min, cond, List, ◌++◌, map, length, take, drop, replicate, pos, Ok, Err, Result, nat_le}
 use Rattle.refusal.specs.declared.Refusal.{Refusal}
 use Rattle.refusal.specs.declared.Refusal.TheVariants.{SheetTooSmall}
 use Rattle.search.specs.declared.sheet.SheetRecord.{SheetRecord}

@@ -3,7 +3,7 @@ use Rattle.std.specs.Prelude.{◌≡◌, ℕ, ◌+◌, ◌*◌, ◌≤◌, max, 
 use Rattle.std.specs.List.{flat_map as joined, slice_get}
 use Rattle.node.specs.declared.shape.Shape.{Shape}
 use Rattle.search.specs.Node.{Node, bytes_of}
-use Rattle.search.specs.Judging.{Judging, Judgement, Judgeable}
+use Rattle.search.specs.Judging.{Judging, Judgeable}
 use Rattle.search.specs.Picks.{ahead, picks}
 use Rattle.search.specs.Figure.{IsFigure}
 use Rattle.search.specs.Walk.{WalkFromRoot}

@@ -1,5 +1,5 @@
 -- One round more.
-use Rattle.std.proofs.Common.{◌≡◌, ℕ, suc, ◌+◌, List, get_or, sym, refl, ap, ◌∙◌, add-suc, add-one}
+use Rattle.std.proofs.Common.{◌≡◌, ℕ, suc, ◌+◌, List, get_or, sym, ap, ◌∙◌, add-suc, add-one}
 use Rattle.sha256.specs.Constants.{K}
 use Rattle.sha256.specs.Compression.{step, rounds}
 use Rattle.sha256.specs.declared.words.Words.{Words}

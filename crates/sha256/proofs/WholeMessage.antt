@@ -1,8 +1,8 @@
 -- A message by its whole blocks, then by what is left of it and the padding.
-use Rattle.std.proofs.Common.{◌≡◌, ℕ, zero, suc, ◌+◌, ◌-◌, ◌*◌, ◌/◌, ◌%◌, ◌<◌, ◌≤◌, List, [], ◌∷◌, ◌++◌, length, take, drop, replicate, sym, refl, ap, ◌∙◌, arith}
+use Rattle.std.proofs.Common.{◌≡◌, ℕ, ◌+◌, ◌-◌, ◌*◌, ◌/◌, ◌%◌, ◌≤◌, List, ◌++◌, length, drop, replicate, sym, refl, ap, ◌∙◌, arith}
 use Rattle.std.proofs.lemmas.List.{length-append, length-replicate, length-drop, drop-append-le}
 use Rattle.sha256.specs.Constants.{H⁰}
-use Rattle.sha256.specs.Standard.{after, padding, padded, joined, sha256, eight_bytes}
+use Rattle.sha256.specs.Standard.{after, padding, joined, sha256, eight_bytes}
 use Rattle.sha256.specs.declared.words.Words.{Words}
 use Rattle.sha256.proofs.BlockSteps.{after_front, after_rest}
 

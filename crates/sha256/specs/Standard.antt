@@ -1,5 +1,5 @@
 -- FIPS 180-4: SHA-256 of a message of whole bytes.
-use Rattle.std.specs.Prelude.{ℕ, zero, suc, ◌+◌, ◌-◌, ◌*◌, ◌/◌, ◌%◌, ◌^◌, List, [], ◌∷◌, ◌++◌, length, take, drop, replicate}
+use Rattle.std.specs.Prelude.{ℕ, zero, suc, ◌-◌, ◌*◌, ◌/◌, ◌%◌, ◌^◌, List, [], ◌∷◌, ◌++◌, length, take, drop, replicate}
 use Rattle.sha256.specs.Constants.{H⁰}
 use Rattle.sha256.specs.Compression.{compress}
 use Rattle.sha256.specs.declared.words.Words.{Words}

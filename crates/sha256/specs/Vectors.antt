@@ -1,5 +1,5 @@
 -- Digests that the standard's publisher gives.
-use Rattle.std.specs.Prelude.{◌≡◌, List, [], ◌∷◌}
+use Rattle.std.specs.Prelude.{◌≡◌, [], ◌∷◌}
 use Rattle.sha256.specs.Standard.{sha256}
 
 abbrev pub EmptyMessage : Type 0

@@ -1,5 +1,5 @@
 -- Every node of a figure of sites is fit and of its shape.
-use Rattle.std.proofs.Common.{◌≡◌, Bool, true, ◌&&◌, List, [], ◌∷◌, ◌++◌, map, ℤ, refl}
+use Rattle.std.proofs.Common.{◌≡◌, true, ◌&&◌, List, ◌++◌, map, ℤ, refl}
 use Rattle.std.specs.List.{AllByRecursion as All}
 use Rattle.std.proofs.lemmas.Bool.{and_parts, and_from}
 use Rattle.std.proofs.ByRecursion.{All-weaker, All-map}

@@ -1,5 +1,5 @@
 -- A site is made exactly from a record whose fields are in range.
-use Rattle.std.proofs.Common.{◌≡◌, Bool, true, false, cond, ◌&&◌, ℤ, Some, None, sym, refl, ap, ◌∙◌, subst}
+use Rattle.std.proofs.Common.{◌≡◌, cond, ℤ, Some, None, sym, ap, ◌∙◌}
 use Rattle.std.proofs.lemmas.Bool.{and_from, and_right, cond-true, cond-false}
 use Rattle.records.specs.declared.raw.SiteRecord.{SiteRecord}
 use Rattle.records.specs.Range.{is_record_number, is_coordinate, kept_by}

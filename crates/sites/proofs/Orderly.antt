@@ -1,6 +1,6 @@
 -- The sites that a register can hold.
-use Rattle.std.proofs.Common.{◌≡◌, ℕ, ◌<◌, Bool, true, false, cond, not, leb, List, length, Some, None, Option, sym, refl, ap, ◌∙◌, ⊎_elim, arith}
-use Rattle.std.proofs.lemmas.Bool.{cases_Bool, cond-true, cond-false, leb-false, not-false}
+use Rattle.std.proofs.Common.{◌≡◌, ◌<◌, true, false, cond, not, leb, List, length, Some, None}
+use Rattle.std.proofs.lemmas.Bool.{leb-false, not-false}
 use Rattle.refusal.specs.declared.Refusal.TheVariants.{FieldOutOfRange, NumberHeld, RegisterFull}
 use Rattle.records.specs.declared.raw.SiteRecord.{SiteRecord}
 use Rattle.records.specs.Held.{holds, is_before}
@@ -8,7 +8,7 @@ use Rattle.records.proofs.Holdable.{holdable_all, holdable_length, holdable_risi
 use Rattle.records.proofs.Outcome.{first_passed, then_passed}
 use Rattle.slices.proofs.Uniqueness.{same_from_members}
 use Rattle.sites.specs.Site.{is_site, number_of, add_refusal, room_for}
-use Rattle.sites.specs.Holdable.{CanBeHeld, Orderly, HeldSitesAreOrderly, SameSitesSameList}
+use Rattle.sites.specs.Holdable.{HeldSitesAreOrderly, SameSitesSameList}
 
 module _ (rs : List SiteRecord) (r : SiteRecord) (free : add_refusal rs r ≡ None) where
   added_is_site : is_site r ≡ true

@@ -1,5 +1,5 @@
 -- The sites in a rectangle.
-use Rattle.std.specs.Prelude.{ℕ, Bool, cond, not, ◌&&◌, List, [], ◌∷◌, map, ℤ, Some, None, Option, int_le, nat_le, unsigned_abs}
+use Rattle.std.specs.Prelude.{ℕ, Bool, cond, ◌&&◌, List, [], ◌∷◌, map, ℤ, Some, None, Option, int_le, nat_le, unsigned_abs}
 use Rattle.refusal.specs.declared.Refusal.{Refusal}
 use Rattle.refusal.specs.declared.Refusal.TheVariants.{QuestionOutOfBounds}
 use Rattle.records.specs.declared.raw.SiteRecord.{SiteRecord}

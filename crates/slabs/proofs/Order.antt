@@ -89,9 +89,9 @@ one_lies_under x e f p q apart = ⊎_elim (λ h. inr (higher→under x f e (h x 
 
 pub order_is_kept : OrderIsKept
 order_is_kept w x e f n m = ⊎_elim
-    (λ h. higher→not_under w e f (h w n.e-covers n.f-covers) ∙ sym (higher→not_under x e f (h x m.e-covers m.f-covers)))
-    (λ h. higher→under w e f (h w n.f-covers n.e-covers) ∙ sym (higher→under x e f (h x m.f-covers m.e-covers)))
-    (one_is_higher w e f n.e-covers n.f-covers n.apart)
+    (λ h. higher→not_under w e f (h w n.e_covers n.f_covers) ∙ sym (higher→not_under x e f (h x m.e_covers m.f_covers)))
+    (λ h. higher→under w e f (h w n.f_covers n.e_covers) ∙ sym (higher→under x e f (h x m.f_covers m.e_covers)))
+    (one_is_higher w e f n.e_covers n.f_covers n.apart)
 
 -- ---- equal fractions
 level→same : (a b : ℤ) → (le_z a b && le_z b a) ≡ true → a ≡ b
@@ -102,5 +102,5 @@ pub never_the_same : (w : ℤ) (e f : EdgeRecord) → covers e w ≡ true → co
 never_the_same w e f p q apart heights slopes = ⊎_elim (λ h. higher_never_level w e f (h w p q) heights slopes) (λ h. higher_never_level w f e (h w q p) (sym heights) (sym slopes)) (one_is_higher w e f p q apart)
 
 pub never_level : NeverLevel
-never_level w e f n heights slopes = never_the_same w e f n.e-covers n.f-covers n.apart
+never_level w e f n heights slopes = never_the_same w e f n.e_covers n.f_covers n.apart
     (level→same (left w e f) (right w e f) heights) (level→same (left_slope w e f) (right_slope w e f) slopes)

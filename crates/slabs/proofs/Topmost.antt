@@ -36,8 +36,8 @@ highest_is_best x best (e ∷ records) w ws = by (lies_under x best e) refl (hig
       f.1,
       record {
         is_one = inr (⊎_elim (λ p. subst (λ z. Has (e ∷ records) z) p (has_first e records)) (has_later e records f.0) b.is_one);
-        not_under_best = not_under_transitive x f.0 e best f.3 ws.0 w b.not-under-best (never_under_each_other x best e q);
-        not_under = (b.not-under-best, b.not-under);
+        not_under_best = not_under_transitive x f.0 e best f.3 ws.0 w b.not_under_best (never_under_each_other x best e q);
+        not_under = (b.not_under_best, b.not_under);
       },
       f.3,
     )
@@ -46,8 +46,8 @@ highest_is_best x best (e ∷ records) w ws = by (lies_under x best e) refl (hig
       g.1,
       record {
         is_one = ⊎_elim inl (λ p. inr (has_later e records g.0 p)) b.is_one;
-        not_under_best = b.not-under-best;
-        not_under = (not_under_transitive x g.0 best e g.3 w ws.0 b.not-under-best q, b.not-under);
+        not_under_best = b.not_under_best;
+        not_under = (not_under_transitive x g.0 best e g.3 w ws.0 b.not_under_best q, b.not_under);
       },
       g.3,
     )
@@ -63,7 +63,7 @@ topmost_is_top x (e ∷ records) ws =
     let found = highest_is_best x e records ws.0 ws.1 in
     let b = found.2 in
     subst (Top x (e ∷ records)) (sym found.1)
-    (⊎_elim (λ p. subst (λ z. Has (e ∷ records) z) p (has_first e records)) (has_later e records found.0) b.is_one, (b.not-under-best, b.not-under))
+    (⊎_elim (λ p. subst (λ z. Has (e ∷ records) z) p (has_first e records)) (has_later e records found.0) b.is_one, (b.not_under_best, b.not_under))
 
 -- ---- of the edges under a point
 top→named : (records : List EdgeRecord) (px py : ℤ) (o : Option EdgeRecord) → Top px (under px py records) o → Named records px py o
@@ -71,8 +71,8 @@ top→named records px py None none = all_from_has (λ e. is_under px py e ≡ f
     (λ e h. ⊎_elim (λ t. absurd (has_none e (subst (λ l. Has l e) none (has→kept (is_under px py) records e h t)))) (λ t. t) (cases_Bool (is_under px py e)))
 top→named records px py (Some e) top = record {
   is_among = kept→has (is_under px py) records e top.0;
-  is-under = kept→passes (is_under px py) records e top.0;
-  none-higher = λ f h t. all-has (λ g. lies_under px e g ≡ false) (under px py records) f top.1 (has→kept (is_under px py) records f h t);
+  under = kept→passes (is_under px py) records e top.0;
+  none_higher = λ f h t. all-has (λ g. lies_under px e g ≡ false) (under px py records) f top.1 (has→kept (is_under px py) records f h t);
 }
 
 pub topmost_names_the_zone : TopmostNamesTheZone
@@ -87,16 +87,16 @@ named_by_one_edge records px py e f a n m = ⊎_elim (λ same. same) (λ apart. 
 
     never_two : conflict e f ≡ false → ⊥
     never_two apart =
-        ⊎_elim (λ h. both_ways (lies_under px e f) (n.none-higher f m.is_among m.is-under) (higher→under px e f h))
-        (⊎_elim (λ h. both_ways (lies_under px f e) (m.none-higher e n.is_among n.is-under) (higher→under px f e h))
-        (λ h. never_the_same px e f (covering e n.is-under) (covering f m.is-under) apart h.0 h.1))
+        ⊎_elim (λ h. both_ways (lies_under px e f) (n.none_higher f m.is_among m.under) (higher→under px e f h))
+        (⊎_elim (λ h. both_ways (lies_under px f e) (m.none_higher e n.is_among n.under) (higher→under px f e h))
+        (λ h. never_the_same px e f (covering e n.under) (covering f m.under) apart h.0 h.1))
         (one_or_level px e f)
 
 -- what is named is one outcome
 pub named_once : (records : List EdgeRecord) (px py : ℤ) → Apart records → (o p : Option EdgeRecord) → Named records px py o → Named records px py p → o ≡ p
 named_once records px py a None None n m = refl
-named_once records px py a None (Some f) n m = absurd (both_ways (is_under px py f) (all-has (λ e. is_under px py e ≡ false) records f n m.is_among) m.is-under)
-named_once records px py a (Some e) None n m = absurd (both_ways (is_under px py e) (all-has (λ f. is_under px py f ≡ false) records e m n.is_among) n.is-under)
+named_once records px py a None (Some f) n m = absurd (both_ways (is_under px py f) (all-has (λ e. is_under px py e ≡ false) records f n m.is_among) m.under)
+named_once records px py a (Some e) None n m = absurd (both_ways (is_under px py e) (all-has (λ f. is_under px py f ≡ false) records e m n.is_among) n.under)
 named_once records px py a (Some e) (Some f) n m = ap Some (named_by_one_edge records px py e f a n m)
 
 pub zone_is_that_named : ZoneIsThatNamed
@@ -110,8 +110,8 @@ named_shuffled : (records shuffled : List EdgeRecord) (px py : ℤ) → IsPermut
 named_shuffled records shuffled px py s None n = all_shuffled (λ e. is_under px py e ≡ false) records shuffled s n
 named_shuffled records shuffled px py s (Some e) n = record {
   is_among = has_shuffled records shuffled e s n.is_among;
-  is-under = n.is-under;
-  none-higher = λ f h t. n.none-higher f (has_shuffled shuffled records f (IsPermutation-sym records shuffled s) h) t;
+  under = n.under;
+  none_higher = λ f h t. n.none_higher f (has_shuffled shuffled records f (IsPermutation-sym records shuffled s) h) t;
 }
 
 pub topmost_shuffled : (records shuffled : List EdgeRecord) (px py : ℤ) → Apart records → IsPermutation records shuffled → topmost px (under px py records) ≡ topmost px (under px py shuffled)

@@ -8,16 +8,16 @@ pub worked_cases : WorkedCases
 worked_cases = record {
   apart = (lt_z_yes tt, (refl, (refl, tt)), (lt_z_yes tt, (refl, tt), (lt_z_yes tt, tt, tt)));
   crosses = refl;
-  crosses-upward = refl;
-  on-one-line = refl;
-  meets-from-above = refl;
-  meets-from-below = refl;
+  crosses_upward = refl;
+  on_one_line = refl;
+  meets_from_above = refl;
+  meets_from_below = refl;
   goes_on = refl;
-  would-cross = refl;
-  on-an-edge = refl;
-  between-two = refl;
+  would_cross = refl;
+  on_an_edge = refl;
+  between_two = refl;
   below_all = refl;
-  where-they-meet = refl;
-  east-of-all = refl;
-  west-of-all = refl;
+  where_they_meet = refl;
+  east_of_all = refl;
+  west_of_all = refl;
 }

@@ -39,7 +39,7 @@ zone_at records px py = zone_above (topmost px (under px py records))
 -- e names the zone of a point: it is a record, under the point, and lies under no other such record there.
 pub record NamesTheZone (records : List EdgeRecord) (px py : ℤ) (e : EdgeRecord) : Type 0 where
   pub is_among : Has records e
-  pub is_under_lem : is_under px py e ≡ true
+  pub under : is_under px py e ≡ true
   pub none_higher : (f : EdgeRecord) → Has records f → is_under px py f ≡ true → lies_under px e f ≡ false
 
 abbrev pub OpenGround : List EdgeRecord → ℤ → ℤ → Type 0

@@ -25,7 +25,7 @@ pub record WorkedCases : Type 0 where
   pub on_one_line : conflicting (pos 2) (pos 1) (pos 4) (pos 2) ≡ true
   pub meets_from_above : conflicting (pos 0) (pos 8) (pos 10) (pos 5) ≡ false
   pub meets_from_below : conflicting (pos 0) (negsuc 2) (pos 10) (pos 5) ≡ false
-  pub goes_on_lem : conflicting (pos 10) (pos 5) (pos 20) (pos 10) ≡ false
+  pub goes_on : conflicting (pos 10) (pos 5) (pos 20) (pos 10) ≡ false
   -- its line crosses the spoke at (2, 1), west of where it begins
   pub would_cross : conflicting (pos 4) (pos 3) (pos 10) (pos 9) ≡ false
   -- a point on an edge is above it

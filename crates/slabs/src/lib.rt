@@ -1,4 +1,6 @@
 // What orders the edges of a slab, and what makes the topmost edge under a point unique.
+#![tactic(auto)]
+
 ghost use Rattle.slabs.specs.Slab.{OrderIsKept, NeverLevel};
 ghost use Rattle.slabs.specs.Topmost.{TopmostNamesTheZone, NamedByOneEdge, ZoneIsThatNamed, ZoneOfOpenGround, AnyOrderNamesIt};
 ghost use Rattle.slabs.specs.Worked.{WorkedCases};

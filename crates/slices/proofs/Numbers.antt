@@ -1,5 +1,5 @@
 -- The order of unsigned numbers.
-use Rattle.std.proofs.Common.{◌≡◌, ℕ, ◌<◌, ◌≤◌, true, false, leb, List, arith}
+use Rattle.std.proofs.Common.{ℕ, ◌<◌, ◌≤◌, leb, List, arith}
 use Rattle.std.proofs.lemmas.Bool.{leb-true, leb-false, le-leb}
 use Rattle.slices.specs.Order.{IsTotal, IsTransitive, TiesAreEqual}
 

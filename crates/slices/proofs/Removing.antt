@@ -1,8 +1,8 @@
 -- What stays of a list without one of its elements.
 use Rattle.std.proofs.Common.{◌≡◌, ℕ, zero, suc, ◌<◌, Bool, true, ◌⊎◌, List, [], ◌∷◌, length, get_or, refl, inl, inr, ⊎_elim, arith}
 use Rattle.std.specs.List.{remove, ContainsAt as Has, AllByRecursion as All}
-use Rattle.std.proofs.ByRecursion.{has_get_or, has_append_right}
-use Rattle.slices.specs.Order.{at_most_each, rising}
+use Rattle.std.proofs.ByRecursion.{has_append_right}
+use Rattle.slices.specs.Order.{rising}
 use Rattle.slices.proofs.Tests.{all_from_at_most_each, at_most_each_from_all, rising_parts, rising_from, has_cons_cases}
 
 pub all_removed : {X : Type 0} (P : X → Type 0) (xs : List X) (i : ℕ) → All P xs → All P (remove xs i)

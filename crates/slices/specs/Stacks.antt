@@ -1,5 +1,5 @@
 -- What a stack in lent places holds, and what a push and a pop do with it.
-use Rattle.std.specs.Prelude.{ℕ, Bool, cond, List, [], ◌∷◌, reverse, length, take, Some, None, Ok, Err, Option, Result, nat_lt, slice_set}
+use Rattle.std.specs.Prelude.{Bool, cond, List, [], ◌∷◌, reverse, length, take, Some, None, Ok, Err, Option, Result, nat_lt, slice_set}
 use Rattle.slices.specs.declared.stack.Stack.{Stack}
 
 -- The entries, newest first.

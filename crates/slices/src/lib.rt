@@ -1,4 +1,5 @@
 //! What is done with lent slices, proved once for every element.
+#![tactic(auto)]
 
 mod comparison;
 mod filling;

@@ -1,5 +1,5 @@
 -- One stone drawn after another.
-use Rattle.std.proofs.Common.{◌≡◌, ℕ, List, [], ◌∷◌, ◌++◌, ℤ, pos, Some, None, Ok, Err, Option, Result, sym, refl, ap, ◌∙◌, subst}
+use Rattle.std.proofs.Common.{◌≡◌, List, ◌++◌, pos, Some, None, Ok, Err, Option, Result, sym, refl, ap, ◌∙◌, subst}
 use Rattle.refusal.specs.declared.Refusal.{Refusal}
 use Rattle.toy_chart.specs.declared.number.StoneNumber.{StoneNumber}
 use Rattle.search.specs.declared.sheet.SheetRecord.{SheetRecord}

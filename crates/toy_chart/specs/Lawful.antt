@@ -1,6 +1,6 @@
 -- What every chart kind shows, of stones.
-use Rattle.std.specs.Prelude.{◌≡◌, ℕ, zero, suc, ◌<◌, ◌≤◌, Bool, true, false, cond, not, List, [], ◌∷◌, length, ℤ, pos, negsuc, Some, None, Option, int_le, refl}
-use Rattle.std.proofs.Common.{sym, ap, subst, ◌∙◌, arith}
+use Rattle.std.specs.Prelude.{◌≡◌, ℕ, zero, suc, ◌<◌, ◌≤◌, Bool, true, false, not, List, [], ◌∷◌, length, ℤ, pos, negsuc, Some, None, Option, int_le, refl}
+use Rattle.std.proofs.Common.{ap, subst, arith}
 use Rattle.std.specs.List.{AllByRecursion as All}
 use Rattle.std.proofs.lemmas.Bool.{and_parts, leb-true, not-false}
 use Rattle.refusal.specs.declared.Refusal.TheVariants.{FieldOutOfRange, NumberHeld}
@@ -11,15 +11,15 @@ use Rattle.records.specs.Held.{holds}
 use Rattle.records.specs.Range.{is_record_number}
 use Rattle.records.proofs.Holdable.{holdable_all}
 use Rattle.records.proofs.Outcome.{first_passed, then_passed}
-use Rattle.search.specs.Judging.{Judging, Judgeable}
+use Rattle.search.specs.Judging.{Judgeable}
 use Rattle.search.specs.Drawing.{CanBeHeld}
 use Rattle.search.specs.Laws.{Answers, JudgesWell, Laws}
-use Rattle.search.specs.Visit.{Fits, FitsWhole}
+use Rattle.search.specs.Visit.{FitsWhole}
 use Rattle.search.proofs.Places.{not_both, some_same}
 use Rattle.search.proofs.Walking.{answers_by_rose, roses_make_figures}
 use Rattle.toy_chart.specs.declared.Stone.{Stone}
 use Rattle.toy_chart.specs.declared.StoneChart.{StoneChart}
-use Rattle.toy_chart.specs.Stones.{listed, held, number_of, add_refusal, shapes, is_stone, fit, counted, judge_stone, judging, drawing, rose_of, answer_of}
+use Rattle.toy_chart.specs.Stones.{listed, held, number_of, add_refusal, shapes, is_stone, counted, judge_stone, judging, drawing, rose_of, answer_of}
 
 few_numbers_lem : (kind : ℕ) (shape : Shape) → shapes kind ≡ Some shape → shape.numbers ≤ 4
 few_numbers_lem zero shape h = let e = ap (λ (s : Shape). s.numbers) (some_same (shaped 0 0) shape h) in omega (arith, e)

@@ -1,4 +1,6 @@
 //! A chart of at most one stone: it shows that what every chart kind shows can be shown.
+#![tactic(auto)]
+
 ghost use Rattle.std.specs.Prelude.{◌≡◌, Bool, pos};
 ghost use Rattle.search.specs.Drafting.{drafted, draft_answer, drawn_so_far, sheet_with};
 ghost use Rattle.toy_chart.specs.Stones.{judging as stone_judging, drawing as stone_drawing, held as stones_held, rose_of, record_with, listed};

@@ -1,5 +1,7 @@
 // Prints digests of many messages by each hash. What it must print was computed by another implementation
 // (tests/make_vectors.py).
+#![tactic(auto)]
+
 mod hex;
 mod messages;
 mod parts;

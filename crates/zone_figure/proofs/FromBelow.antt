@@ -27,10 +27,10 @@ AllCover x = All (λ e. covers e x ≡ true)
 
 turned : (w : ℤ) (e f : EdgeRecord) → Neighbours w e f → Neighbours w f e
 turned w e f n = record {
-  e-wide = n.f-wide;
-  f-wide = n.e-wide;
-  e-covers = n.f-covers;
-  f-covers = n.e-covers;
+  e_wide = n.f_wide;
+  f_wide = n.e_wide;
+  e_covers = n.f_covers;
+  f_covers = n.e_covers;
   apart = conflict_symmetric e f ∙ n.apart;
 }
 
@@ -42,7 +42,7 @@ neighbours_each w (e ∷ edges) a c = (from edges a.1 a.2 c.1, neighbours_each w
     from : (rest : List EdgeRecord) → All (λ f. conflict e f ≡ false) rest → Apart rest → AllCover w rest → All (Neighbours w e) rest
     from [] clear b d = tt
     from (f ∷ rest) clear b d =
-        (record { e-wide = a.0; f-wide = b.0; e-covers = c.0; f-covers = d.0; apart = clear.0 }, from rest clear.1 b.2 d.1)
+        (record { e_wide = a.0; f_wide = b.0; e_covers = c.0; f_covers = d.0; apart = clear.0 }, from rest clear.1 b.2 d.1)
 
 module _ (w : ℤ) where
   under_from_listed : (e f : EdgeRecord) → Neighbours w e f → from_below w e f ≡ true → Under w e f
@@ -54,7 +54,7 @@ module _ (w : ℤ) where
   under_each : (e f : EdgeRecord) (edges : List EdgeRecord) → Neighbours w f e → Under w e f → All (λ g. Neighbours w g e) edges → All (Under w f) edges → All (Under w e) edges
   under_each e f [] n u near h = tt
   under_each e f (g ∷ edges) n u near h =
-      (under_transitive w e f g n.f-wide n.e-wide near.0.e-wide u h.0, under_each e f edges n u near.1 h.1)
+      (under_transitive w e f g n.f_wide n.e_wide near.0.e_wide u h.0, under_each e f edges n u near.1 h.1)
 
   placed_under : (e : EdgeRecord) (edges : List EdgeRecord) → All (λ g. Neighbours w g e) edges → Pairwise (Under w) edges → Pairwise (Under w) (placed (from_below w) e edges)
   placed_under e [] near h = (tt, tt)

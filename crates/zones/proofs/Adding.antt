@@ -1,5 +1,5 @@
 -- Which refusal an add gets, in the order of its tests.
-use Rattle.std.proofs.Common.{◌≡◌, ◌<◌, ◌≤◌, Bool, true, false, cond, not, leb, List, length, Some, None, sym, refl, ap, ◌∙◌}
+use Rattle.std.proofs.Common.{◌≡◌, ◌<◌, ◌≤◌, true, false, cond, not, leb, List, length, Some, None, ap, ◌∙◌}
 use Rattle.std.proofs.lemmas.Bool.{cond-true, cond-false, le-leb, lt-leb}
 use Rattle.refusal.specs.declared.Refusal.TheVariants.{NumberHeld, RegisterFull, EdgeConflict}
 use Rattle.records.specs.declared.raw.EdgeRecord.{EdgeRecord}

@@ -1,15 +1,15 @@
 -- The edges that a register can hold.
-use Rattle.std.proofs.Common.{◌≡◌, ℕ, suc, ◌<◌, Bool, true, false, cond, not, ◌&&◌, ◌||◌, leb, List, [], ◌∷◌, ◌++◌, length, take, drop, ℤ, Some, None, Option, sym, refl, ap, ◌∙◌, subst, ⊎_elim}
+use Rattle.std.proofs.Common.{◌≡◌, ◌<◌, true, false, cond, not, leb, List, [], ◌∷◌, length, take, drop, ℤ, Some, None, sym, subst, ⊎_elim}
 use lib.Signed.{lt_z}
 use Rattle.std.specs.List.{AllByRecursion as All}
 use Rattle.std.proofs.lemmas.List.{take-append-drop}
 use Rattle.std.proofs.lemmas.Bool.{cases_Bool, cond-true, cond-false, leb-false, not-false, and_parts, or_parts}
 use Rattle.refusal.specs.declared.Refusal.TheVariants.{FieldOutOfRange, NumberHeld, RegisterFull, EdgeConflict}
 use Rattle.records.specs.declared.raw.EdgeRecord.{EdgeRecord}
-use Rattle.records.specs.Held.{same_number, holds, by_number, is_before, put_in, taken_out, Holdable, fresh, added, removed}
+use Rattle.records.specs.Held.{same_number, holds, by_number, is_before, put_in, taken_out, fresh, added, removed}
 use Rattle.records.proofs.Holdable.{holdable_all, holdable_length, holdable_rising, before_apart, all_taken_out}
 use Rattle.records.proofs.Outcome.{first_passed, then_passed}
-use Rattle.slices.specs.Order.{placed, place_of}
+use Rattle.slices.specs.Order.{place_of}
 use Rattle.slices.proofs.Placing.{placed_is}
 use Rattle.slices.proofs.Uniqueness.{same_from_members}
 use Rattle.algebra.proofs.Order.{int_lt→<ℤ}
@@ -19,7 +19,7 @@ use Rattle.slabs.specs.Topmost.{Apart, Wide}
 use Rattle.slabs.proofs.Apart.{apart_placed}
 use Rattle.slabs.proofs.Topmost.{named_by_one_edge, any_order_names_it}
 use Rattle.zones.specs.Edges.{number_of, add_refusal, room_for, conflicts_with_any}
-use Rattle.zones.specs.Holdable.{CanBeHeld, Orderly, HeldEdgesAreOrderly, SameEdgesSameList, ZoneIsNamedByOneEdge, ZoneIsTheSameInAnyOrder}
+use Rattle.zones.specs.Holdable.{CanBeHeld, HeldEdgesAreOrderly, SameEdgesSameList, ZoneIsNamedByOneEdge, ZoneIsTheSameInAnyOrder}
 
 module _ (rs : List EdgeRecord) (e : EdgeRecord) (free : add_refusal rs e ≡ None) where
   added_is_edge : is_edge e ≡ true

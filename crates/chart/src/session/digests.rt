@@ -6,7 +6,7 @@ ghost use Rattle.chart.specs.Session.{digest_line, function_of};
 
 use byte_commands::write::write_digest;
 use digest::Hash;
-use hex::decode::decode;
+use hex_text::decode::decode;
 use refusal::Refusal;
 use script::command::HashName;
 use script::reply::Reply;

@@ -1,4 +1,4 @@
-use Rattle.std.proofs.Common.{◌≡◌, ℕ, ◌+◌, ◌*◌, length, refl, ap, ◌∙◌, arith}
+use Rattle.std.proofs.Common.{◌≡◌, ◌+◌, ◌*◌, length, refl, ap, ◌∙◌, arith}
 use Rattle.blake2s.specs.Standard.{after}
 use Rattle.blake2s.proofs.BlockSteps.{block_more}
 use Rattle.blake2s.proofs.blocks.absorb_blocks.Goals as goal

@@ -1,4 +1,4 @@
-use Rattle.std.proofs.Common.{◌≡◌, Bool, cond, get_or, sym, refl, ap, ◌∙◌}
+use Rattle.std.proofs.Common.{◌≡◌, cond, get_or, sym, ◌∙◌}
 use lib.Bits.{bit_xor}
 use Rattle.blake2s.specs.Constants.{IV}
 use Rattle.blake2s.specs.Mixing.{started}

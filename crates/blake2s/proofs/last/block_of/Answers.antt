@@ -4,5 +4,5 @@ use Rattle.blake2s.proofs.last.block_of.Goals as goal
 
 pub returns : goal.returns
 returns c =
-    filled_is c.args.rest.now c.copy-from-slice.new.self (length c.args.rest.now - 0)
-    c.copy-from-slice.ensures.after (omega arith)
+    filled_is c.args.rest.now c.copy_from_slice.new.self (length c.args.rest.now - 0)
+    c.copy_from_slice.ensures.after (omega arith)

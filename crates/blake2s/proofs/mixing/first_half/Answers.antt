@@ -3,4 +3,4 @@ use Rattle.blake2s.proofs.mixing.first_half.Goals as goal
 
 pub returns : goal.returns
 unfolding first_half
-returns c = simp (c.rotate-right.ensures, c.rotate-right-2.ensures)
+returns c = simp (c.rotate_right.ensures, c.rotate_right-2.ensures)

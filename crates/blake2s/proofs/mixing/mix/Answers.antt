@@ -5,6 +5,6 @@ use Rattle.blake2s.proofs.mixing.mix.Goals as goal
 pub returns : goal.returns
 unfolding G
 returns c =
-    c.second-half.ensures ∙
+    c.second_half.ensures ∙
     ap (λ (v : List ℕ). second_half v c.args.a c.args.b c.args.c c.args.d c.args.y)
-    c.first-half.ensures
+    c.first_half.ensures

@@ -1,4 +1,4 @@
-use Rattle.std.proofs.Common.{◌≡◌, ℕ, refl}
+use Rattle.std.proofs.Common.{refl}
 use Rattle.blake2s.specs.Mixing.{chosen, columns}
 use Rattle.blake2s.proofs.RoundSteps.{mixed}
 use Rattle.blake2s.proofs.rounds.mix_columns.Goals as goal

@@ -1,4 +1,4 @@
-use Rattle.std.proofs.Common.{◌≡◌, ℕ, refl}
+use Rattle.std.proofs.Common.{refl}
 use Rattle.blake2s.specs.Mixing.{chosen, diagonals}
 use Rattle.blake2s.proofs.RoundSteps.{mixed}
 use Rattle.blake2s.proofs.rounds.mix_diagonals.Goals as goal

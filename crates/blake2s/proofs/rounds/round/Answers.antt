@@ -4,5 +4,5 @@ use Rattle.blake2s.proofs.rounds.round.Goals as goal
 pub returns : goal.returns
 returns g c =
     λ first before.
-    round_more c.args.block.now first c.args.v.now c.mix-columns.new.v c.mix-diagonals.new.v g.row.ROUND
-    before c.mix-columns.ensures c.mix-diagonals.ensures
+    round_more c.args.block.now first c.args.v.now c.mix_columns.new.v c.mix_diagonals.new.v g.row.ROUND
+    before c.mix_columns.ensures c.mix_diagonals.ensures

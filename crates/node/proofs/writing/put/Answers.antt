@@ -5,5 +5,5 @@ use Rattle.node.proofs.writing.put.Goals as goal
 pub returns : goal.returns
 returns c = record {
   answer = refl;
-  after = put_part c.args.out.now c.args.at c.copy-from-slice.new.self c.args.bytes.now c.copy-from-slice.ensures.after;
+  after = put_part c.args.out.now c.args.at c.copy_from_slice.new.self c.args.bytes.now c.copy_from_slice.ensures.after;
 }

@@ -1,4 +1,4 @@
-use Rattle.std.proofs.Common.{◌+◌, [], length, sym, refl, ap, ◌∙◌, arith}
+use Rattle.std.proofs.Common.{◌+◌, [], length, refl, ap, ◌∙◌, arith}
 use Rattle.std.proofs.lemmas.List.{take_all}
 use Rattle.node.specs.Strings.{xdr_opaques}
 use Rattle.node.specs.Writing.{put_at}

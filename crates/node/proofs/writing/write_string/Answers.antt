@@ -1,4 +1,4 @@
-use Rattle.std.proofs.Common.{◌≡◌, ◌+◌, ◌<◌, ◌≤◌, length, Ok, sym, refl, ap, ◌∙◌, arith}
+use Rattle.std.proofs.Common.{◌≡◌, ◌+◌, ◌<◌, ◌≤◌, length, Ok, ap, ◌∙◌, arith}
 use Rattle.node.specs.Strings.{string_of, xdr_ints, xdr_opaques}
 use Rattle.node.specs.Writing.{put_at}
 use Rattle.node.specs.Xdr.{xdr_uint}
@@ -20,13 +20,13 @@ returns-then-at-out c =
       after = string_without_room out c.args.at c.args.kind numbers digests c.if-numbers-gt4.false c.if-digests-gt3.false short;
     }
 
-pub put-ints-after-numbers-requires : goal.put-ints-after-numbers-requires
-put-ints-after-numbers-requires c =
-    omega (arith, xdr_ints_length c.args.numbers.now, ap length c.to-be-bytes.ensures, c.put-after-kind.ensures.answer, c.put-after-kind.auto.out, c.if-at-out.false, c.if-out-at.false)
+pub put_ints-after_numbers-requires : goal.put_ints-after_numbers-requires
+put_ints-after_numbers-requires c =
+    omega (arith, xdr_ints_length c.args.numbers.now, ap length c.to_be_bytes.ensures, c.put-after_kind.ensures.answer, c.put-after_kind.auto.out, c.if-at-out.false, c.if-out-at.false)
 
-pub put-digests-requires : goal.put-digests-requires
-put-digests-requires c =
-    omega (arith, xdr_ints_length c.args.numbers.now, xdr_opaques_length 32 c.args.digests.now c.told-digests, ap length c.to-be-bytes.ensures, c.put-after-kind.ensures.answer, c.put-after-kind.auto.out, c.put-ints-after-numbers.ensures.answer, c.put-ints-after-numbers.auto.out, c.if-at-out.false, c.if-out-at.false)
+pub put_digests-requires : goal.put_digests-requires
+put_digests-requires c =
+    omega (arith, xdr_ints_length c.args.numbers.now, xdr_opaques_length 32 c.args.digests.now c.told-digests, ap length c.to_be_bytes.ensures, c.put-after_kind.ensures.answer, c.put-after_kind.auto.out, c.put_ints-after_numbers.ensures.answer, c.put_ints-after_numbers.auto.out, c.if-at-out.false, c.if-out-at.false)
 
 pub returns : goal.returns
 returns c =
@@ -36,16 +36,16 @@ returns c =
     let numbers = c.args.numbers.now in
     let digests = c.args.digests.now in
     let size = string_length_lem kind numbers digests c.told-digests in
-    let word = c.to-be-bytes.ensures in
+    let word = c.to_be_bytes.ensures in
     let room : at + length (string_of kind numbers digests) ≤ length out = omega (arith, size, c.if-at-out.false, c.if-out-at.false) in
-    let first : c.put-after-kind.result ≡ at + length (xdr_uint kind) = omega (arith, ap length word, c.put-after-kind.ensures.answer) in
-    let end : c.put-digests.result ≡ at + length (string_of kind numbers digests) =
-    omega (arith, size, first, c.put-ints-after-numbers.ensures.answer, c.put-digests.ensures.answer, xdr_ints_length numbers, xdr_opaques_length 32 digests c.told-digests) in
+    let first : c.put-after_kind.result ≡ at + length (xdr_uint kind) = omega (arith, ap length word, c.put-after_kind.ensures.answer) in
+    let end : c.put_digests.result ≡ at + length (string_of kind numbers digests) =
+    omega (arith, size, first, c.put_ints-after_numbers.ensures.answer, c.put_digests.ensures.answer, xdr_ints_length numbers, xdr_opaques_length 32 digests c.told-digests) in
     record {
       answer = ap Ok end ∙ string_end_with_room out at kind numbers digests c.if-numbers-gt4.false c.if-digests-gt3.false room;
-      after = c.put-digests.ensures.after
-          ∙ ap (λ t. put_at t c.put-ints-after-numbers.result (xdr_opaques digests)) c.put-ints-after-numbers.ensures.after
-          ∙ ap (λ t. put_at (put_at t c.put-after-kind.result (xdr_ints numbers)) c.put-ints-after-numbers.result (xdr_opaques digests)) (c.put-after-kind.ensures.after ∙ ap (put_at out at) word)
-          ∙ three_puts out at c.put-after-kind.result c.put-ints-after-numbers.result (xdr_uint kind) (xdr_ints numbers) (xdr_opaques digests) c.if-at-out.false first c.put-ints-after-numbers.ensures.answer
+      after = c.put_digests.ensures.after
+          ∙ ap (λ t. put_at t c.put_ints-after_numbers.result (xdr_opaques digests)) c.put_ints-after_numbers.ensures.after
+          ∙ ap (λ t. put_at (put_at t c.put-after_kind.result (xdr_ints numbers)) c.put_ints-after_numbers.result (xdr_opaques digests)) (c.put-after_kind.ensures.after ∙ ap (put_at out at) word)
+          ∙ three_puts out at c.put-after_kind.result c.put_ints-after_numbers.result (xdr_uint kind) (xdr_ints numbers) (xdr_opaques digests) c.if-at-out.false first c.put_ints-after_numbers.ensures.answer
           ∙ string_with_room out at kind numbers digests c.if-numbers-gt4.false c.if-digests-gt3.false room;
     }

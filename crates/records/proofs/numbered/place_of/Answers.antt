@@ -1,4 +1,4 @@
-use Rattle.std.proofs.Common.{◌≡◌, length, drop, ℤ, sym, ap, ◌∙◌, subst, w64, SFits, to_z, of_z}
+use Rattle.std.proofs.Common.{◌≡◌, drop, ℤ, sym, ap, ◌∙◌, subst, w64, to_z, of_z}
 use Rattle.std.proofs.lemmas.Int.{to_z-of_z}
 use Rattle.std.proofs.lemmas.List.{at_drop_all}
 use Rattle.records.specs.Held.{place_from}
@@ -13,7 +13,7 @@ returns-then-number g c =
     let rs = c.args.records.now in
     let i = c.loop-i.i in
     let so_far = subst (λ (m : ℤ). place_from 0 f m rs ≡ place_from i f m (drop i rs)) (to_z-of_z w64 n c.ranges.number) c.loop-i.invariant in
-    let same = same_bits w64 c.number.result n (record { sfits = c.number.type-inv }) c.ranges.number c.if-number.true in
+    let same = same_bits w64 c.number.result n (record { sfits = c.number.type_inv }) c.ranges.number c.if-number.true in
     sym (so_far ∙ place_here f n rs i c.index-records-i.result c.loop-i-test.true c.index-records-i.is (sym c.number.ensures ∙ same))
 
 pub loop-i-preserved : goal.loop-i-preserved

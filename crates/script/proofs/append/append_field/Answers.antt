@@ -9,12 +9,12 @@ pub returns-then-number-lt0 : goal.returns-then-number-lt0
 returns-then-number-lt0 c =
     grown_then
     (ap field (sym (to_z-of_z w64 c.args.number c.ranges.number))
-    ∙ field_below_zero (to_z w64 (of_z w64 c.args.number)) c.unsigned-abs.result c.if-number-lt0.true c.unsigned-abs.ensures.value)
-    c.in-ok-append-text.ensures c.append-digits.ensures
+    ∙ field_below_zero (to_z w64 (of_z w64 c.args.number)) c.unsigned_abs.result c.if-number-lt0.true c.unsigned_abs.ensures.value)
+    c.in_ok-append_text.ensures c.append_digits.ensures
 
 pub returns : goal.returns
 returns c =
     grown_then
     (ap field (sym (to_z-of_z w64 c.args.number c.ranges.number))
     ∙ field_from_zero (to_z w64 (of_z w64 c.args.number)) c.if-number-lt0.false)
-    c.in-ok-append-text-2.ensures c.append-digits-2.ensures
+    c.in_ok-append_text-2.ensures c.append_digits-2.ensures

@@ -10,16 +10,16 @@ use Rattle.script.proofs.append.append_fields.Goals as goal
 pub loop-number-init : goal.loop-number-init
 loop-number-init c = grown_none c.args.out.now tt
 
-pub returns-in-err-append-field : goal.returns-in-err-append-field
-returns-in-err-append-field c =
+pub returns-in_err-append_field : goal.returns-in_err-append_field
+returns-in_err-append_field c =
     let i = c.loop-number.number-index in
     let numbers = c.args.numbers.now in
-    grown_stop c.from-residual.ensures.0 (flat_map field (drop (i + 1) numbers)) (joined_split field numbers i (pos 0) (omega arith))
-    (grown_then refl c.loop-number.invariant (grown_at (ap field (sym (to_z-of_z w64 (get_or c.args.numbers.now c.loop-number.number-index (pos 0)) (search rules)))) c.in-err-append-field.ensures))
+    grown_stop c.from_residual.ensures.0 (flat_map field (drop (i + 1) numbers)) (joined_split field numbers i (pos 0) (omega arith))
+    (grown_then refl c.loop-number.invariant (grown_at (ap field (sym (to_z-of_z w64 (get_or c.args.numbers.now c.loop-number.number-index (pos 0)) (search rules)))) c.in_err-append_field.ensures))
 
 pub loop-number-preserved : goal.loop-number-preserved
 loop-number-preserved c =
-    grown_then (joined_take field c.args.numbers.now c.loop-number.number-index (pos 0) (omega arith)) c.loop-number.invariant (grown_at (ap field (sym (to_z-of_z w64 (get_or c.args.numbers.now c.loop-number.number-index (pos 0)) (search rules)))) c.in-ok-append-field.ensures)
+    grown_then (joined_take field c.args.numbers.now c.loop-number.number-index (pos 0) (omega arith)) c.loop-number.invariant (grown_at (ap field (sym (to_z-of_z w64 (get_or c.args.numbers.now c.loop-number.number-index (pos 0)) (search rules)))) c.in_ok-append_field.ensures)
 
 pub returns : goal.returns
 returns c = grown_at (ap (flat_map field) (sym (take_all c.loop-number.number-index c.args.numbers.now (omega arith)))) c.loop-number.invariant

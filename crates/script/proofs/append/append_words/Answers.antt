@@ -4,9 +4,9 @@ use Rattle.script.specs.Lines.{field}
 use Rattle.script.proofs.Growing.{grown_then, grown_stop}
 use Rattle.script.proofs.append.append_words.Goals as goal
 
-pub returns-in-err-append-text : goal.returns-in-err-append-text
-returns-in-err-append-text c =
-    grown_stop c.from-residual.ensures.0 (flat_map field c.args.numbers.now) refl c.in-err-append-text.ensures
+pub returns-in_err-append_text : goal.returns-in_err-append_text
+returns-in_err-append_text c =
+    grown_stop c.from_residual.ensures.0 (flat_map field c.args.numbers.now) refl c.in_err-append_text.ensures
 
 pub returns : goal.returns
-returns c = grown_then refl c.in-ok-append-text.ensures c.append-fields.ensures
+returns c = grown_then refl c.in_ok-append_text.ensures c.append_fields.ensures

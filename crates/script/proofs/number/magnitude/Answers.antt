@@ -1,6 +1,6 @@
-use Rattle.std.proofs.Common.{◌≡◌, ◌+◌, ◌-◌, ◌*◌, ◌<◌, true, length, get_or, drop, Some, None, sym, ap, ◌∙◌, inl, inr, arith}
+use Rattle.std.proofs.Common.{◌≡◌, ◌+◌, ◌-◌, ◌*◌, ◌<◌, length, get_or, drop, None, sym, ap, ◌∙◌, inl, inr, arith}
 use Rattle.std.proofs.lemmas.Bool.{cond-true, le-leb}
-use Rattle.script.specs.Number.{and_then, digits_after, natural_of, up_to}
+use Rattle.script.specs.Number.{and_then, digits_after, up_to}
 use Rattle.script.proofs.Magnitude.{too_large, digits_start, digits_more, digits_stop, digits_all, quotient_above, quotient_below}
 use Rattle.script.proofs.number.magnitude.Goals as goal
 use Rattle.script.proofs.number.magnitude.Goals.{then-digit-lt48-via-then-digit-lt48, then-digit-lt48-via-else-digit-lt48+then-digit-gt57}

@@ -1,4 +1,4 @@
-use Rattle.std.proofs.Common.{◌≡◌, ℕ, List, ◌∷◌, sym, ap, ◌∙◌}
+use Rattle.std.proofs.Common.{◌≡◌, ◌∷◌, sym, ap, ◌∙◌}
 use Rattle.std.proofs.lemmas.Bool.{cond-false, le-ltb}
 use Rattle.script.specs.Command.{read_words}
 use Rattle.script.specs.Words.{words_of}
@@ -9,5 +9,5 @@ returns c =
     let words : words_of c.args.line.now ≡ c.in-Some.verb.now ∷ words_of c.next.new.self.rest.now =
     ap words_of (sym c.new-words.ensures) ∙ c.in-Some.ensures.word
     in
-    c.read-after.ensures
-    ∙ (sym (ap (read_words c.args.kind) words) ∙ sym (cond-false _ _ _ (le-ltb _ _ c.if-line-gt-LONGEST-LINE.false)))
+    c.read_after.ensures
+    ∙ (sym (ap (read_words c.args.kind) words) ∙ sym (cond-false _ _ _ (le-ltb _ _ c.if-line-gt-LONGEST_LINE.false)))

@@ -6,5 +6,5 @@ use Rattle.script.proofs.write.append_begun.Goals as goal
 pub returns : goal.returns
 returns c =
     grown_then
-    (begun_parts c.args.kind c.args.hash c.as-bytes.result.now c.as-bytes-2.result.now (c.as-bytes.ensures.value ∙ c.kind-name.ensures) (c.as-bytes-2.ensures.value ∙ c.hash-name.ensures))
-    c.in-ok-append-pair.ensures c.append-pair-2.ensures
+    (begun_parts c.args.kind c.args.hash c.as_bytes.result.now c.as_bytes-2.result.now (c.as_bytes.ensures.value ∙ c.kind_name.ensures) (c.as_bytes-2.ensures.value ∙ c.hash_name.ensures))
+    c.in_ok-append_pair.ensures c.append_pair-2.ensures

@@ -5,4 +5,4 @@ use Rattle.script.proofs.write.write_sites.Goals as goal
 
 pub returns : goal.returns
 returns c =
-    appended c.args.out.now c.append-sites-written.new.out c.finish-line.new.out (line_of_sites c.args.numbers.now) c.len-start.result c.append-sites-written.result c.finish-line.result (c.len-start.ensures ∙ c.args.out.now.ok.0) c.append-sites-written.ensures c.finish-line.ensures
+    appended c.args.out.now c.append_sites-written.new.out c.finish_line.new.out (line_of_sites c.args.numbers.now) c.len-start.result c.append_sites-written.result c.finish_line.result (c.len-start.ensures ∙ c.args.out.now.ok.0) c.append_sites-written.ensures c.finish_line.ensures

@@ -5,4 +5,4 @@ use Rattle.script.proofs.write.write_unknown.Goals as goal
 
 pub returns : goal.returns
 returns c =
-    appended c.args.out.now c.append-pair-written.new.out c.finish-line.new.out (line_of_unknown c.args.line.now) c.len-start.result c.append-pair-written.result c.finish-line.result (c.len-start.ensures ∙ c.args.out.now.ok.0) c.append-pair-written.ensures c.finish-line.ensures
+    appended c.args.out.now c.append_pair-written.new.out c.finish_line.new.out (line_of_unknown c.args.line.now) c.len-start.result c.append_pair-written.result c.finish_line.result (c.len-start.ensures ∙ c.args.out.now.ok.0) c.append_pair-written.ensures c.finish_line.ensures

@@ -1,5 +1,4 @@
-use Rattle.search.proofs.Figures.{drafts_are_figures_lem, whole_drawn}
-use Rattle.search.proofs.Sequences.{next_call, stop, rose_grows}
+use Rattle.search.proofs.Figures.{drafts_are_figures_lem}
 use Rattle.search.proofs.promises.drafts_are_figures.Goals as goal
 
 pub returns : goal.returns

@@ -1,4 +1,4 @@
-use Rattle.std.proofs.Common.{◌≡◌, ℕ, length, refl, ap, ◌∙◌, arith}
+use Rattle.std.proofs.Common.{◌≡◌, length, refl, ap, ◌∙◌, arith}
 use Rattle.sha256.specs.Standard.{after}
 use Rattle.sha256.proofs.BlockSteps.{block_more}
 use Rattle.sha256.proofs.blocks.absorb_blocks.Goals as goal

@@ -1,4 +1,4 @@
-use Rattle.std.proofs.Common.{◌≡◌, ℕ, ◌+◌, ◌-◌, ◌*◌, sym, refl, ap, ◌∙◌, arith}
+use Rattle.std.proofs.Common.{◌≡◌, ◌+◌, ◌-◌, ◌*◌, sym, refl, ap, ◌∙◌, arith}
 use Rattle.sha256.specs.Compression.{compress, rounds, added, schedule}
 use Rattle.sha256.specs.Windows.{window}
 use Rattle.sha256.proofs.compression.absorb.Goals as goal
@@ -6,7 +6,7 @@ use Rattle.sha256.proofs.compression.absorb.Goals.{then-quarter-gt0, else-quarte
 
 pub loop-quarter-init : goal.loop-quarter-init
 unfolding rounds
-loop-quarter-init c = (refl, c.first-sixteen-w.ensures)
+loop-quarter-init c = (refl, c.first_sixteen-w.ensures)
 
 pub loop-quarter-preserved : goal.loop-quarter-preserved
 loop-quarter-preserved c =
@@ -18,15 +18,15 @@ loop-quarter-preserved c =
     elim c.if-quarter-gt0.branch [
       | then-quarter-gt0 w ↦
           (let next : 16 * (q - 1) + 16 ≡ 16 * q = omega arith in
-          w.w-is ∙ w.next-sixteen-next.ensures c.args.block.now (16 * (q - 1)) (omega arith) c.loop-quarter.invariant.1 ∙
+          w.w-is ∙ w.next_sixteen-next.ensures c.args.block.now (16 * (q - 1)) (omega arith) c.loop-quarter.invariant.1 ∙
           ap (window ws) next)
       | else-quarter-gt0 w ↦
           (let start : 16 * (q - 1) ≡ 16 * q = omega arith in
           w.w-is ∙ c.loop-quarter.invariant.1 ∙ ap (window ws) start)
     ] in
     let more : 16 * q + 16 ≡ 16 * (q + 1) = omega arith in
-    let half = c.first-eight-rounds-half.ensures h ws c.loop-quarter.invariant.0 w-is in
-    let whole = c.last-eight-rounds-whole.ensures h ws half w-is in
+    let half = c.first_eight_rounds-half.ensures h ws c.loop-quarter.invariant.0 w-is in
+    let whole = c.last_eight_rounds-whole.ensures h ws half w-is in
     (whole ∙ ap (rounds h ws) more, w-is ∙ ap (window ws) (sym here))
 
 pub returns : goal.returns

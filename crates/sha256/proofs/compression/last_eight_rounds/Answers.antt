@@ -1,6 +1,6 @@
 use Rattle.std.proofs.Common.{ap}
 use Rattle.sha256.specs.declared.window.Window.{Window}
-use Rattle.sha256.proofs.RoundSteps.{round_first, round_more}
+use Rattle.sha256.proofs.RoundSteps.{round_more}
 use Rattle.sha256.proofs.compression.last_eight_rounds.Goals as goal
 
 pub returns : goal.returns

@@ -1,4 +1,4 @@
-use Rattle.std.proofs.Common.{◌≡◌, ℕ, ◌-◌, ◌*◌, List, ◌∷◌, ◌++◌, length, take, replicate, ap, ◌∙◌, arith}
+use Rattle.std.proofs.Common.{ℕ, ◌-◌, ◌*◌, List, ◌∷◌, ◌++◌, length, take, replicate, ap, ◌∙◌, arith}
 use Rattle.sha256.specs.Compression.{compress}
 use Rattle.sha256.specs.Standard.{eight_bytes}
 use Rattle.sha256.specs.declared.words.Words.{Words}
@@ -14,7 +14,7 @@ returns c =
     let ended = rest ++ (128 ∷ replicate (63 - length rest) 0) in
     let bits = eight_bytes (8 * size) in
     let filled = λ (xs : List ℕ). take 56 xs ++ bits in
-    c.absorb-2.ensures ∙ ap (compress c.if-rest-ge56.h) c.put-length.ensures ∙
+    c.absorb-2.ensures ∙ ap (compress c.if-rest-ge56.h) c.put_length.ensures ∙
     elim c.if-rest-ge56.branch [
       | then-rest-ge56 w ↦
           ap (λ (xs : List ℕ). compress c.if-rest-ge56.h (filled xs)) w.block-is ∙

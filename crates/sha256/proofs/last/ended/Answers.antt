@@ -6,5 +6,5 @@ use Rattle.sha256.proofs.last.ended.Goals as goal
 pub returns : goal.returns
 returns c =
     let written = length c.args.rest.now - 0 in
-    ended_is c.args.rest.now c.copy-from-slice.new.self (replicate 64 0) (length c.args.rest.now - 0)
-    c.copy-from-slice.ensures.after (omega arith) c.requires (drop-replicate (length c.args.rest.now - 0) 64 0)
+    ended_is c.args.rest.now c.copy_from_slice.new.self (replicate 64 0) (length c.args.rest.now - 0)
+    c.copy_from_slice.ensures.after (omega arith) c.requires (drop-replicate (length c.args.rest.now - 0) 64 0)

@@ -3,4 +3,4 @@ use Rattle.sha256.proofs.schedule.expanded.Goals as goal
 
 pub returns : goal.returns
 unfolding expand
-returns c = simp (c.small-sigma-1.ensures, c.small-sigma-0.ensures)
+returns c = simp (c.small_sigma_1.ensures, c.small_sigma_0.ensures)

@@ -1,4 +1,4 @@
-use Rattle.std.proofs.Common.{◌≡◌, sym, ◌∙◌, arith, lit<}
+use Rattle.std.proofs.Common.{sym, ◌∙◌, lit<}
 use Rattle.sha256.proofs.ScheduleWords.{own_word, same_window}
 use Rattle.sha256.proofs.schedule.first_sixteen.Goals as goal
 

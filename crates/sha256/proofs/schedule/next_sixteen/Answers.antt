@@ -1,4 +1,4 @@
-use Rattle.std.proofs.Common.{◌≡◌, ◌+◌, ap, arith}
+use Rattle.std.proofs.Common.{◌+◌, ap, arith}
 use Rattle.sha256.specs.declared.window.Window.{Window}
 use Rattle.sha256.proofs.ScheduleWords.{expanded_is, same_window}
 use Rattle.sha256.proofs.schedule.next_sixteen.Goals as goal

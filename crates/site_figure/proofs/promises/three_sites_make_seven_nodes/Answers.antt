@@ -5,5 +5,5 @@ pub returns : goal.returns
 returns c =
     record {
       figure = refl;
-      visits = (record { strings-are = refl; bytes-are = refl; emits = refl }, record { strings-are = refl; bytes-are = refl; emits = refl });
+      visits = (record { strings_are = refl; bytes_are = refl; emits = refl }, record { strings_are = refl; bytes_are = refl; emits = refl });
     }

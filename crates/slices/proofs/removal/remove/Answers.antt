@@ -12,9 +12,9 @@ returns g c =
     let at = c.args.at in
     let place = c.if-at-len.false in
     let within = c.if-len-run.false in
-    let left : c.copy-within.new.self ≡ remove (take len slice) at ++ drop (len - 1) slice =
-    c.copy-within.ensures.after ∙ removal_leaves slice len at place within in
-    let run : take (len - 1) c.copy-within.new.self ≡ remove (take len slice) at =
+    let left : c.copy_within.new.self ≡ remove (take len slice) at ++ drop (len - 1) slice =
+    c.copy_within.ensures.after ∙ removal_leaves slice len at place within in
+    let run : take (len - 1) c.copy_within.new.self ≡ remove (take len slice) at =
     ap (take (len - 1)) left ∙ removed_run slice (drop (len - 1) slice) len at place within in
     record {
       answer = sym (length_with_place slice len at place within);

@@ -1,4 +1,4 @@
-use Rattle.std.proofs.Common.{◌≡◌, ℕ, ◌-◌, ◌*◌, ◌/◌, true, List, length, take, ap, ◌∙◌, arith}
+use Rattle.std.proofs.Common.{◌≡◌, ℕ, ◌-◌, ◌*◌, ◌/◌, true, length, take, ap, ◌∙◌, arith}
 use Rattle.blake2s.specs.Mixing.{F}
 use Rattle.blake2s.specs.Standard.{filled}
 use Rattle.blake2s.proofs.BlockSteps.{whole_message}
@@ -8,12 +8,12 @@ pub returns : goal.returns
 returns c =
     λ bytes before.
     let size = c.args.self.size in
-    let held = c.count-pending-held.result in
-    let rest = take (c.count-pending-held.result - 0) c.args.self.pending in
-    let same : c.count-pending-held.result - 0 ≡ c.count-pending-held.result = omega arith in
-    let cut : c.count-pending-held.result - 0 ≡ length bytes - 64 * ((length bytes - 1) / 64) =
-    same ∙ c.count-pending-held.ensures ∙ ap (λ (n : ℕ). n - 64 * ((n - 1) / 64)) before.counted in
-    c.bytes-of.ensures ∙
-    whole_message bytes rest c.args.self.words c.absorb-last.new.h
+    let held = c.count_pending-held.result in
+    let rest = take (c.count_pending-held.result - 0) c.args.self.pending in
+    let same : c.count_pending-held.result - 0 ≡ c.count_pending-held.result = omega arith in
+    let cut : c.count_pending-held.result - 0 ≡ length bytes - 64 * ((length bytes - 1) / 64) =
+    same ∙ c.count_pending-held.ensures ∙ ap (λ (n : ℕ). n - 64 * ((n - 1) / 64)) before.counted in
+    c.bytes_of.ensures ∙
+    whole_message bytes rest c.args.self.words c.absorb_last.new.h
     (ap (λ (i : ℕ). take i c.args.self.pending) cut ∙ before.held) before.absorbed
-    (c.absorb-last.ensures ∙ ap (λ (i : ℕ). F c.args.self.words (filled rest) i true) before.counted)
+    (c.absorb_last.ensures ∙ ap (λ (i : ℕ). F c.args.self.words (filled rest) i true) before.counted)

@@ -1,4 +1,4 @@
-use Rattle.std.proofs.Common.{◌≡◌, ℕ, ◌<◌, length, refl, arith}
+use Rattle.std.proofs.Common.{◌≡◌, length, refl, arith}
 use Rattle.blake2s.proofs.TakenParts.{flushed_none, flushed_block}
 use Rattle.blake2s.proofs.state.Blake2s.flush.Goals as goal
 

@@ -3,4 +3,4 @@ use Rattle.blake2s.proofs.BlockSteps.{after_none}
 use Rattle.blake2s.proofs.state.Blake2s.new.Goals as goal
 
 pub returns : goal.returns
-returns c = record { counted = refl; absorbed = c.first-state.ensures ∙ after_none []; held = refl }
+returns c = record { counted = refl; absorbed = c.first_state.ensures ∙ after_none []; held = refl }

@@ -1,4 +1,4 @@
-use Rattle.std.proofs.Common.{◌≡◌, ℕ, List, ℤ, vec_items, Result, ap, ◌∙◌, w64, SFits, rules}
+use Rattle.std.proofs.Common.{ℤ, Result, ap, ◌∙◌, w64, SFits, rules}
 use Rattle.std.proofs.lemmas.Int.{to_z-of_z}
 use Rattle.refusal.specs.declared.Refusal.{Refusal}
 use Rattle.script.specs.Lines.{ended, line_of}
@@ -18,4 +18,4 @@ returns c =
     let line =
     ap (λ (n : ℤ). ended (line_of (reply_of c.add-outcome.result (Added n)))) (to_z-of_z w64 c.args.edge.number number) ∙ ap (λ (o : Result (Unit {0}) Refusal). ended (line_of (reply_of o done))) c.add-outcome.ensures.answer ∙ ap (λ (q : Reply). ended (line_of q)) (replied_is (add_refusal (held s.edges) c.args.edge) done)
     in
-    record { printed = retold c.write-outcome.result _ _ _ _ line c.write-outcome.ensures; left = ap (with_edges (state_of s)) c.add-outcome.ensures.after }
+    record { printed = retold c.write_outcome.result _ _ _ _ line c.write_outcome.ensures; left = ap (with_edges (state_of s)) c.add-outcome.ensures.after }

@@ -1,4 +1,4 @@
-use Rattle.std.proofs.Common.{◌≡◌, Some, Option, sym, ap, ◌∙◌}
+use Rattle.std.proofs.Common.{◌≡◌, Some, Option, sym, ap}
 use Rattle.refusal.specs.declared.Refusal.{Refusal}
 use Rattle.records.proofs.Outcome.{refused}
 use Rattle.script.specs.Lines.{ended}
@@ -12,4 +12,4 @@ pub returns-in-Err : goal.returns-in-Err
 returns-in-Err c =
     let numbers = sites_in (held c.args.self.now.sites) c.args.rectangle.now in
     let why : question_refusal c.args.rectangle.now ≡ Some c.in-Err.refusal = refused _ _ _ c.in-Err.ensures in
-    retold c.write-reply.result _ _ _ _ (ap (λ (o : Option Refusal). ended (sites_line o numbers)) (sym why)) (standing _ _ c.write-reply.result _ c.write-reply.ensures)
+    retold c.write_reply.result _ _ _ _ (ap (λ (o : Option Refusal). ended (sites_line o numbers)) (sym why)) (standing _ _ c.write_reply.result _ c.write_reply.ensures)

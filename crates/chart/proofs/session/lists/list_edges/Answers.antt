@@ -1,9 +1,9 @@
-use Rattle.std.proofs.Common.{◌≡◌, ◌<◌, ◌≤◌, length, vec_items, sym, ap, ◌∙◌, arith}
+use Rattle.std.proofs.Common.{◌<◌, ◌≤◌, length, vec_items, ap, ◌∙◌, arith}
 use Rattle.zones.specs.Register.{held}
 use Rattle.script.specs.Lines.{ended, line_of_edge}
 use Rattle.chart.proofs.Printing.{listed_more, listed_all, not_missing}
 use Rattle.chart.proofs.session.lists.list_edges.Goals as goal
-use Rattle.chart.proofs.session.lists.list_edges.Goals.{in-Some+in-ok-write-reply, in-default}
+use Rattle.chart.proofs.session.lists.list_edges.Goals.{in-Some+in_ok-write_reply, in_default}
 
 pub loop-place-preserved : goal.loop-place-preserved
 loop-place-preserved c =
@@ -11,8 +11,8 @@ loop-place-preserved c =
     let i = c.loop-place.place in
     let below : i < length rs = omega (arith, c.len-place-end.ensures, c.loop-place-test.true) in
     elim c.match-record.branch [
-      | in-Some+in-ok-write-reply w ↦ listed_more (λ r. ended (line_of_edge r)) rs i w.in-Some.edge (vec_items c.args.out.now) (vec_items c.loop-place.out) (vec_items c.match-record.out) w.in-Some.ensures c.loop-place.invariant (ap vec_items w.out-is ∙ w.in-ok-write-reply.ensures.items)
-      | in-default w ↦ absurd (not_missing rs i below w.in-default.ensures)
+      | in-Some+in_ok-write_reply w ↦ listed_more (λ r. ended (line_of_edge r)) rs i w.in-Some.edge (vec_items c.args.out.now) (vec_items c.loop-place.out) (vec_items c.match-record.out) w.in-Some.ensures c.loop-place.invariant (ap vec_items w.out-is ∙ w.in_ok-write_reply.ensures.items)
+      | in_default w ↦ absurd (not_missing rs i below w.in_default.ensures)
     ]
 
 pub returns : goal.returns

@@ -10,4 +10,4 @@ returns-then-i-self c =
 pub returns : goal.returns
 returns c =
     let bytes = c.args.self.now.successors.now in
-    ap Some c.part-of.ensures.value ∙ sym (chunk_at 32 (length bytes / 32) bytes c.args.i c.if-i-self.false)
+    ap Some c.part_of.ensures.value ∙ sym (chunk_at 32 (length bytes / 32) bytes c.args.i c.if-i-self.false)

@@ -10,6 +10,6 @@ passed z = to_z w32 (of_z w32 z)
 pub returns : goal.returns
 returns c =
     let numbers = numbers_in c.args.self.now.numbers.now in
-    let four : List ℤ = passed c.unwrap-or.result ∷ passed c.unwrap-or-2.result ∷ passed c.unwrap-or-3.result ∷ passed c.unwrap-or-4.result ∷ [] in
+    let four : List ℤ = passed c.unwrap_or.result ∷ passed c.unwrap_or-2.result ∷ passed c.unwrap_or-3.result ∷ passed c.unwrap_or-4.result ∷ [] in
     let answer : four ≡ four_numbers (seen_in c.args.self.now) = search rules in
     record { answer = answer; cut = λ few. ap (take (length numbers)) answer ∙ four_of numbers few }

@@ -8,6 +8,6 @@ returns-then-i-self c = sym (number_past c.args.self.now.numbers.now c.args.i c.
 
 pub returns : goal.returns
 returns c =
-    let fits : SFits w32 c.int-at.result = search rules in
-    ap Some (to_z-of_z w32 c.int-at.result fits ∙ c.int-at.ensures)
+    let fits : SFits w32 c.int_at.result = search rules in
+    ap Some (to_z-of_z w32 c.int_at.result fits ∙ c.int_at.ensures)
     ∙ sym (number_at c.args.self.now.numbers.now c.args.i c.if-i-self.false)

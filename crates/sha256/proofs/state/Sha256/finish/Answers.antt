@@ -1,4 +1,4 @@
-use Rattle.std.proofs.Common.{◌≡◌, ℕ, ◌+◌, ◌-◌, ◌/◌, ◌%◌, List, ◌++◌, length, take, refl, ap, ◌∙◌, arith}
+use Rattle.std.proofs.Common.{◌≡◌, ℕ, ◌+◌, ◌-◌, ◌/◌, ◌%◌, ◌++◌, length, take, ap, ◌∙◌, arith}
 use Rattle.sha256.specs.Standard.{after, padding}
 use Rattle.sha256.proofs.WholeMessage.{whole_message}
 use Rattle.sha256.proofs.state.Sha256.finish.Goals as goal
@@ -9,8 +9,8 @@ returns c =
     let size = c.args.self.size in
     let cut : size % 64 - 0 ≡ length bytes % 64 = omega (arith, ap (λ (i : ℕ). i % 64) before.counted) in
     let rest = take (size % 64 - 0) c.args.self.pending in
-    c.bytes-of.ensures ∙
-    whole_message bytes rest c.args.self.words c.absorb-last.new.h
+    c.bytes_of.ensures ∙
+    whole_message bytes rest c.args.self.words c.absorb_last.new.h
     (ap (λ (i : ℕ). take i c.args.self.pending) cut ∙ before.held) before.absorbed
-    (c.absorb-last.ensures ∙
+    (c.absorb_last.ensures ∙
     ap (λ (i : ℕ). after c.args.self.words (rest ++ padding i) ((length rest + 72) / 64)) before.counted)

@@ -13,10 +13,10 @@ returns c =
     let few = c.args.few.now in
     let place = s.size % 64 in
     let long : length c.args.self.now.pending ≡ 64 = omega arith in
-    let pending : (bytes : List ℕ) → Taken s bytes → take (s.size % 64) s.pending ++ (c.copy-from-slice.new.self ++ drop (s.size % 64 + length few - s.size % 64) (drop (s.size % 64) s.pending)) ≡ take (length bytes % 64) s.pending ++ (few ++ drop (length few) (drop (length bytes % 64) s.pending)) =
+    let pending : (bytes : List ℕ) → Taken s bytes → take (s.size % 64) s.pending ++ (c.copy_from_slice.new.self ++ drop (s.size % 64 + length few - s.size % 64) (drop (s.size % 64) s.pending)) ≡ take (length bytes % 64) s.pending ++ (few ++ drop (length few) (drop (length bytes % 64) s.pending)) =
     λ bytes before.
-    placed s.pending c.copy-from-slice.new.self few (s.size % 64) (s.size % 64 + length few - s.size % 64)
-    (length bytes % 64) (ap (λ (i : ℕ). i % 64) before.counted) (omega arith) c.copy-from-slice.ensures.after in
+    placed s.pending c.copy_from_slice.new.self few (s.size % 64) (s.size % 64 + length few - s.size % 64)
+    (length bytes % 64) (ap (λ (i : ℕ). i % 64) before.counted) (omega arith) c.copy_from_slice.ensures.after in
     elim c.if-held-few-eq64.branch [
       | then-held-few-eq64 w ↦
           record {

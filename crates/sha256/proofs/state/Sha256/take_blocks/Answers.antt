@@ -9,5 +9,5 @@ returns c =
       taken =
           λ bytes more before enough are.
           blocks_more c.args.self.now _ bytes more (length c.args.blocks.now) before c.requires.0 enough
-          (c.absorb-blocks.ensures more are) refl;
+          (c.absorb_blocks.ensures more are) refl;
     }

@@ -10,7 +10,6 @@ use Rattle.sites.specs.Site.{raw_of, number_of, is_site, add_refusal}
 use Rattle.sites.specs.Register.{held}
 use Rattle.sites.specs.declared.register.SiteRegister.{SiteRegister}
 use Rattle.records.specs.declared.raw.SiteRecord.{SiteRecord}
-use Rattle.refusal.specs.declared.Refusal.{Refusal}
 use Rattle.slices.proofs.Rewriting.{slice_without_room}
 use Rattle.sites.proofs.Adding.{number_held, register_full, not_refused}
 use Rattle.sites.proofs.register.SiteRegister.add.Goals as goal
@@ -23,14 +22,14 @@ free_or_held : (r : SiteRegister) (from : SiteRecord) (o : Option ℕ) (b : Bool
 free_or_held r from o b place answer =
     held_found raw_of number_of from.number (take r.len r.sites) ∙ ap is_some (sym place) ∙ sym answer
 
-pub returns-then-is-some : goal.returns-then-is-some
-returns-then-is-some c =
+pub returns-then-is_some : goal.returns-then-is_some
+returns-then-is_some c =
     let r = c.args.self.now in
     let from = c.args.from in
     let number : SFits w64 from.number = search rules in
     let site-is = chosen (is_site from) _ from c.in-Some.ensures in
-    let place = from_bits w64 (λ n. place_from 0 (λ s. number_of (raw_of s)) n (take r.len r.sites)) _ from.number number c.place-of.ensures in
-    let refused = number_held (held r) from site-is.0 (free_or_held r from _ true place c.if-is-some.ensures) in
+    let place = from_bits w64 (λ n. place_from 0 (λ s. number_of (raw_of s)) n (take r.len r.sites)) _ from.number number c.place_of.ensures in
+    let refused = number_held (held r) from site-is.0 (free_or_held r from _ true place c.if-is_some.ensures) in
     let both = outcome (add_refusal (held r) from) _ (tt {0}) (held r) (put_in number_of from (held r)) (held r) refused refl in
     record { answer = both.answer; after = both.left }
 
@@ -40,8 +39,8 @@ returns-in-Ok c =
     let from = c.args.from in
     let number : SFits w64 from.number = search rules in
     let site-is = chosen (is_site from) _ from c.in-Some.ensures in
-    let place = from_bits w64 (λ n. place_from 0 (λ s. number_of (raw_of s)) n (take r.len r.sites)) _ from.number number c.place-of.ensures in
-    let free = free_or_held r from _ false place c.if-is-some.ensures in
+    let place = from_bits w64 (λ n. place_from 0 (λ s. number_of (raw_of s)) n (take r.len r.sites)) _ from.number number c.place_of.ensures in
+    let free = free_or_held r from _ false place c.if-is_some.ensures in
     let done = c.in-Ok.ensures in
     let room : length (held r) < 128 = omega (arith, r.places, done.room.0, held_length raw_of r.sites r.len (within r)) in
     let accepted = not_refused (held r) from site-is.0 free room in
@@ -57,8 +56,8 @@ returns-in-Err c =
     let from = c.args.from in
     let number : SFits w64 from.number = search rules in
     let site-is = chosen (is_site from) _ from c.in-Some.ensures in
-    let place = from_bits w64 (λ n. place_from 0 (λ s. number_of (raw_of s)) n (take r.len r.sites)) _ from.number number c.place-of.ensures in
-    let free = free_or_held r from _ false place c.if-is-some.ensures in
+    let place = from_bits w64 (λ n. place_from 0 (λ s. number_of (raw_of s)) n (take r.len r.sites)) _ from.number number c.place_of.ensures in
+    let free = free_or_held r from _ false place c.if-is_some.ensures in
     let done = c.in-Err.ensures in
     let full : 128 ≤ length (held r) = omega (arith, r.places, done.room, held_length raw_of r.sites r.len (within r)) in
     let refused = register_full (held r) from site-is.0 free full in

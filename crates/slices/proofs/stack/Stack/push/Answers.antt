@@ -1,4 +1,4 @@
-use Rattle.std.proofs.Common.{◌≡◌, ◌∷◌, set, Ok, Err, sym, refl, ap, ◌∙◌}
+use Rattle.std.proofs.Common.{◌∷◌, set, Ok, Err, sym, refl, ◌∙◌}
 use Rattle.std.proofs.lemmas.Bool.{cond-true, cond-false}
 use Rattle.slices.specs.Stacks.{contents, has_free_place}
 use Rattle.slices.proofs.Stacking.{free_place, no_free_place, entries_pushed}

@@ -1,4 +1,4 @@
-use Rattle.std.proofs.Common.{◌≡◌, ℕ, ◌<◌, ◌≤◌, Bool, true, false, not, List, map, length, take, is_some, Some, Option, sym, refl, ap, ◌∙◌, arith, w64, SFits, rules}
+use Rattle.std.proofs.Common.{◌≡◌, ℕ, ◌<◌, ◌≤◌, Bool, true, false, not, map, length, take, is_some, Some, Option, sym, refl, ap, ◌∙◌, arith, w64, SFits, rules}
 use Rattle.std.proofs.lemmas.Bool.{cond-true}
 use Rattle.refusal.specs.declared.Refusal.TheVariants.{FieldOutOfRange}
 use Rattle.records.specs.declared.raw.EdgeRecord.{EdgeRecord}
@@ -28,22 +28,22 @@ free_or_held r from o b place answer =
 holds_few : (r : ZoneRegister) → length (held r) ≡ r.len
 holds_few r = held_length raw_of r.edges r.len (within r)
 
-pub returns-in-default : goal.returns-in-default
-returns-in-default c =
+pub returns-in_default : goal.returns-in_default
+returns-in_default c =
     let r = c.args.self.now in
     let from = c.args.from in
-    let refused : add_refusal (held r) from ≡ Some FieldOutOfRange = cond-true (not (is_edge from)) _ _ (ap not (not_chosen (is_edge from) from c.in-default.ensures)) in
+    let refused : add_refusal (held r) from ≡ Some FieldOutOfRange = cond-true (not (is_edge from)) _ _ (ap not (not_chosen (is_edge from) from c.in_default.ensures)) in
     let both = outcome (add_refusal (held r) from) _ (tt {0}) (held r) (put_in number_of from (held r)) (held r) refused refl in
     record { answer = both.answer; after = both.left }
 
-pub returns-then-is-some : goal.returns-then-is-some
-returns-then-is-some c =
+pub returns-then-is_some : goal.returns-then-is_some
+returns-then-is_some c =
     let r = c.args.self.now in
     let from = c.args.from in
     let number : SFits w64 from.number = search rules in
     let edge-is = chosen (is_edge from) _ from c.in-Some.ensures in
-    let place = from_bits w64 (λ n. place_from 0 (λ e. number_of (raw_of e)) n (take r.len r.edges)) _ from.number number c.place-of.ensures in
-    let refused = number_held (held r) from edge-is.0 (free_or_held r from _ true place c.if-is-some.ensures) in
+    let place = from_bits w64 (λ n. place_from 0 (λ e. number_of (raw_of e)) n (take r.len r.edges)) _ from.number number c.place_of.ensures in
+    let refused = number_held (held r) from edge-is.0 (free_or_held r from _ true place c.if-is_some.ensures) in
     let both = outcome (add_refusal (held r) from) _ (tt {0}) (held r) (put_in number_of from (held r)) (held r) refused refl in
     record { answer = both.answer; after = both.left }
 
@@ -53,22 +53,22 @@ returns-then-len-ge-ROOM c =
     let from = c.args.from in
     let number : SFits w64 from.number = search rules in
     let edge-is = chosen (is_edge from) _ from c.in-Some.ensures in
-    let place = from_bits w64 (λ n. place_from 0 (λ e. number_of (raw_of e)) n (take r.len r.edges)) _ from.number number c.place-of.ensures in
-    let free = free_or_held r from _ false place c.if-is-some.ensures in
+    let place = from_bits w64 (λ n. place_from 0 (λ e. number_of (raw_of e)) n (take r.len r.edges)) _ from.number number c.place_of.ensures in
+    let free = free_or_held r from _ false place c.if-is_some.ensures in
     let full : 64 ≤ length (held r) = omega (arith, c.if-len-ge-ROOM.true, holds_few r) in
     let both = outcome (add_refusal (held r) from) _ (tt {0}) (held r) (put_in number_of from (held r)) (held r) (register_full (held r) from edge-is.0 free full) refl in
     record { answer = both.answer; after = both.left }
 
-pub returns-then-has-conflict : goal.returns-then-has-conflict
-returns-then-has-conflict c =
+pub returns-then-has_conflict : goal.returns-then-has_conflict
+returns-then-has_conflict c =
     let r = c.args.self.now in
     let from = c.args.from in
     let number : SFits w64 from.number = search rules in
     let edge-is = chosen (is_edge from) _ from c.in-Some.ensures in
-    let place = from_bits w64 (λ n. place_from 0 (λ e. number_of (raw_of e)) n (take r.len r.edges)) _ from.number number c.place-of.ensures in
-    let free = free_or_held r from _ false place c.if-is-some.ensures in
+    let place = from_bits w64 (λ n. place_from 0 (λ e. number_of (raw_of e)) n (take r.len r.edges)) _ from.number number c.place_of.ensures in
+    let free = free_or_held r from _ false place c.if-is_some.ensures in
     let room : length (held r) < 64 = omega (arith, c.if-len-ge-ROOM.false, holds_few r) in
-    let crosses : conflicts_with_any from (held r) ≡ true = ap (λ (e : EdgeRecord). conflicts_with_any e (held r)) (sym edge-is.1) ∙ sym c.if-has-conflict.ensures in
+    let crosses : conflicts_with_any from (held r) ≡ true = ap (λ (e : EdgeRecord). conflicts_with_any e (held r)) (sym edge-is.1) ∙ sym c.if-has_conflict.ensures in
     let both = outcome (add_refusal (held r) from) _ (tt {0}) (held r) (put_in number_of from (held r)) (held r) (in_conflict (held r) from edge-is.0 free room crosses) refl in
     record { answer = both.answer; after = both.left }
 
@@ -78,10 +78,10 @@ returns c =
     let from = c.args.from in
     let number : SFits w64 from.number = search rules in
     let edge-is = chosen (is_edge from) _ from c.in-Some.ensures in
-    let place = from_bits w64 (λ n. place_from 0 (λ e. number_of (raw_of e)) n (take r.len r.edges)) _ from.number number c.place-of.ensures in
-    let free = free_or_held r from _ false place c.if-is-some.ensures in
+    let place = from_bits w64 (λ n. place_from 0 (λ e. number_of (raw_of e)) n (take r.len r.edges)) _ from.number number c.place_of.ensures in
+    let free = free_or_held r from _ false place c.if-is_some.ensures in
     let room : length (held r) < 64 = omega (arith, c.if-len-ge-ROOM.false, holds_few r) in
-    let clear : conflicts_with_any from (held r) ≡ false = ap (λ (e : EdgeRecord). conflicts_with_any e (held r)) (sym edge-is.1) ∙ sym c.if-has-conflict.ensures in
+    let clear : conflicts_with_any from (held r) ≡ false = ap (λ (e : EdgeRecord). conflicts_with_any e (held r)) (sym edge-is.1) ∙ sym c.if-has_conflict.ensures in
     let accepted = not_refused (held r) from edge-is.0 free room clear in
     let after : map raw_of (take c.in-Ok.longer c.insert.new.run) ≡ put_in number_of from (held r) =
     ap (map raw_of) c.in-Ok.ensures.placing ∙ put_in_lem raw_of number_of _ (λ s t. refl) c.in-Some.edge (take r.len r.edges) ∙ ap (λ (x : EdgeRecord). put_in number_of x (held r)) edge-is.1

@@ -1,6 +1,0 @@
-use Rattle.std.proofs.Common.{◌≡◌, ◌*◌, drop}
-use Rattle.hex.proofs.Pairs.{counted, past}
-use Rattle.hex.proofs.decode.decoded_length.Given as goal
-
-abbrev pub invariant-loop-i : goal.invariant-loop-i
-invariant-loop-i l = counted l.text ≡ past l.i (counted (drop (2 * l.i) l.text))

@@ -1,5 +1,0 @@
-use Rattle.hex.proofs.Written.{written_reads_back}
-use Rattle.hex.proofs.promises.written_hex_reads_back.Goals as goal
-
-pub returns : goal.returns
-returns c = written_reads_back

@@ -1,8 +1,0 @@
-//! What holds of all hex text.
-ghost use Rattle.hex.specs.ReadBack.{WrittenHexReadsBack};
-
-pub fn written_hex_reads_back() -> u8
-    ensures { WrittenHexReadsBack }
-{
-    0
-}
