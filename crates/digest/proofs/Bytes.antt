@@ -1,11 +1,11 @@
 -- Lists whose elements are bytes.
 use Rattle.std.proofs.Common.{ℕ, zero, suc, ◌%◌, ◌<◌, List, [], ◌∷◌, ◌++◌, get_or, lit<}
-use Rattle.std.specs.List.{AllByRecursion as All}
+use Rattle.std.specs.List.{AllByRecursion}
 use Rattle.std.proofs.lemmas.Nat.{mod_below}
 use Rattle.std.proofs.ByRecursion.{All-append}
 
 abbrev pub AllBytes : List ℕ → Type 0
-AllBytes xs = All (λ (b : ℕ). b < 256) xs
+AllBytes xs = AllByRecursion (λ (b : ℕ). b < 256) xs
 
 byte_at : (xs : List ℕ) → AllBytes xs → (place : ℕ) → get_or xs place 0 < 256
 byte_at [] all place = lit< tt

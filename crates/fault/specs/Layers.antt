@@ -1,6 +1,6 @@
 -- The refusal and the layer of each case of a fault.
 use Rattle.std.specs.Prelude.{ℕ, List, [], ◌∷◌}
-use Rattle.std.specs.List.{ContainsAt as Has}
+use Rattle.std.specs.List.{ContainsAt}
 use Rattle.refusal.specs.Table.{number_of}
 use Rattle.refusal.specs.declared.Refusal.{Refusal}
 use Rattle.refusal.specs.declared.Refusal.TheVariants as refusal
@@ -64,4 +64,4 @@ numbers_of layer.Search = 9 ∷ 10 ∷ 14 ∷ 16 ∷ 18 ∷ []
 numbers_of layer.Answer = 17 ∷ []
 
 abbrev pub EachLayerHasItsNumbers : Type 0
-EachLayerHasItsNumbers = (c : Cause) → Has (numbers_of (layer_of c)) (fault_number c)
+EachLayerHasItsNumbers = (c : Cause) → ContainsAt (numbers_of (layer_of c)) (fault_number c)

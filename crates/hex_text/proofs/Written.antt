@@ -4,7 +4,7 @@ use Rattle.std.proofs.lemmas.List.{append_assoc, flat_map_more, take_all, take_m
 use Rattle.std.proofs.lemmas.Bool.{false≢true}
 use Rattle.std.proofs.lemmas.Bool.Decides.{nat_tests}
 use Rattle.std.specs.Option.{option_map, option_zip}
-use Rattle.std.specs.List.{flat_map, AllByRecursion as All}
+use Rattle.std.specs.List.{flat_map, AllByRecursion}
 use Rattle.hex_text.specs.Hex.{bytes_of, digit_value, digits_of, hex_digit, hex_of, pair_value, pairs_of}
 use Rattle.hex_text.proofs.Pairs.{before}
 
@@ -18,13 +18,13 @@ pair_back b h =
     ∙ (ap (λ o. option_map (λ p. 16 * p.0 + p.1) (option_zip (Some (b / 16)) o)) (digit_back (b % 16) (omega arith))
     ∙ ap Some e)
 
-pairs_back : (bs : List ℕ) → All (λ b. b < 256) bs → pairs_of (flat_map digits_of bs) ≡ Some bs
+pairs_back : (bs : List ℕ) → AllByRecursion (λ b. b < 256) bs → pairs_of (flat_map digits_of bs) ≡ Some bs
 pairs_back [] h = refl
 pairs_back (b ∷ bs) h =
     ap (λ v. before v (pairs_of (flat_map digits_of bs))) (pair_back b h.0)
     ∙ ap (before (Some b)) (pairs_back bs h.1)
 
-pub written_reads_back : (bs : List ℕ) → All (λ b. b < 256) bs → bytes_of (hex_of bs) ≡ Some bs
+pub written_reads_back : (bs : List ℕ) → AllByRecursion (λ b. b < 256) bs → bytes_of (hex_of bs) ≡ Some bs
 written_reads_back [] h = refl
 written_reads_back (b ∷ bs) h = pairs_back (b ∷ bs) h
 

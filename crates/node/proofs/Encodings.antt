@@ -1,6 +1,6 @@
 -- The sizes of encodings, and integers in two's complement as the machine has them.
 use Rattle.std.proofs.Common.{◌≡◌, ℕ, suc, ◌+◌, ◌*◌, ◌<◌, List, [], ◌∷◌, ◌++◌, length, get_or, ℤ, pos, negsuc, refl, ap, ◌∙◌, arith, length-append, w32, SFits, to_z, of_z}
-use Rattle.std.specs.List.{AllByRecursion as All}
+use Rattle.std.specs.List.{AllByRecursion}
 use Rattle.std.proofs.lemmas.Int.{to_z-of_z}
 use Rattle.node.specs.Xdr.{xdr_uint, xdr_int, xdr_opaque}
 use Rattle.node.specs.Strings.{xdr_ints, xdr_opaques, string_of}
@@ -14,7 +14,7 @@ xdr_int_bits (negsuc n) = refl
 pub xdr_int_passed : (z : ℤ) → SFits w32 z → xdr_uint (of_z w32 (to_z w32 (of_z w32 z))) ≡ xdr_int z
 xdr_int_passed z fits = ap (λ t. xdr_uint (of_z w32 t)) (to_z-of_z w32 z fits) ∙ xdr_int_bits z
 
-each_four : (zs : List ℤ) → All (λ z. length (xdr_int z) ≡ 4) zs
+each_four : (zs : List ℤ) → AllByRecursion (λ z. length (xdr_int z) ≡ 4) zs
 each_four [] = tt
 each_four (z ∷ zs) = (refl, each_four zs)
 
@@ -25,7 +25,7 @@ xdr_ints_length zs = joined_length xdr_int 4 zs (each_four zs)
 abbrev pub EachOf : ℕ → List (List ℕ) → Type 0
 EachOf n runs = (i : ℕ) → i < length runs → length (get_or runs i []) ≡ n
 
-each_of : (n : ℕ) (runs : List (List ℕ)) → EachOf n runs → All (λ run. length (xdr_opaque run) ≡ n) runs
+each_of : (n : ℕ) (runs : List (List ℕ)) → EachOf n runs → AllByRecursion (λ run. length (xdr_opaque run) ≡ n) runs
 each_of n [] each = tt
 each_of n (run ∷ runs) each = (each 0 (omega arith), each_of n runs (λ i within. each (suc i) (omega arith)))
 

@@ -1,6 +1,6 @@
 -- Encodings of several items in a row.
 use Rattle.std.proofs.Common.{◌≡◌, ℕ, ◌+◌, ◌*◌, ◌<◌, ◌≤◌, List, [], ◌∷◌, ◌++◌, length, get_or, take, drop, sym, refl, ap, ◌∙◌, append_assoc, mul-zero, mul-suc, arith, length-append}
-use Rattle.std.specs.List.{flat_map, AllByRecursion as All}
+use Rattle.std.specs.List.{flat_map, AllByRecursion}
 use Rattle.std.proofs.lemmas.List.{append-nil, take_more, take-append-drop}
 use Rattle.node.specs.Writing.{put_at}
 use Rattle.node.proofs.Buffers.{put_more}
@@ -26,7 +26,7 @@ joined_within f xs i d within =
     ap (flat_map f) (sym (take-append-drop (i + 1) xs)) ∙ joined_append f (take (i + 1) xs) (drop (i + 1) xs) in
     omega (arith, ap length split, length-append (flat_map f (take (i + 1) xs)) (flat_map f (drop (i + 1) xs)), ap length (joined_next f xs i d within), length-append (flat_map f (take i xs)) (f (get_or xs i d)))
 
-pub joined_length : {X : Type 0} (f : X → List ℕ) (n : ℕ) (xs : List X) → All (λ x. length (f x) ≡ n) xs → length (flat_map f xs) ≡ n * length xs
+pub joined_length : {X : Type 0} (f : X → List ℕ) (n : ℕ) (xs : List X) → AllByRecursion (λ x. length (f x) ≡ n) xs → length (flat_map f xs) ≡ n * length xs
 joined_length f n [] all = sym (mul-zero n)
 joined_length f n (x ∷ xs) all =
     length-append (f x) (flat_map f xs)

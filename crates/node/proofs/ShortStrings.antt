@@ -1,6 +1,6 @@
 -- How long a string can be.
 use Rattle.std.proofs.Common.{◌≡◌, ℕ, zero, suc, ◌≤◌, leb, List, [], ◌∷◌, length, Ok, Err, arith}
-use Rattle.std.specs.List.{AllByRecursion as All}
+use Rattle.std.specs.List.{AllByRecursion}
 use Rattle.std.proofs.lemmas.Bool.{cond-true, le-leb}
 use Rattle.refusal.specs.declared.Refusal.TheVariants.{MessageTooLong}
 use Rattle.digest.specs.Hashing.{hashed, longest}
@@ -8,7 +8,7 @@ use Rattle.node.specs.Strings.{string_of}
 use Rattle.node.specs.Sizes.{IsDigest, StringsAreShort, StringsAreHashed}
 use Rattle.node.proofs.Encodings.{EachOf, string_length_lem}
 
-pub each_digest : (digests : List (List ℕ)) → All IsDigest digests → EachOf 32 digests
+pub each_digest : (digests : List (List ℕ)) → AllByRecursion IsDigest digests → EachOf 32 digests
 each_digest [] all i within = absurd (omega arith)
 each_digest (d ∷ digests) all zero within = all.0
 each_digest (d ∷ digests) all (suc i) within = each_digest digests all.1 i (omega arith)

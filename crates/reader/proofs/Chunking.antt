@@ -1,6 +1,6 @@
 -- Items of equal size in a row, cut apart and joined.
 use Rattle.std.proofs.Common.{◌≡◌, ℕ, zero, suc, ◌+◌, ◌*◌, ◌/◌, ◌<◌, List, [], ◌∷◌, ◌++◌, map, length, take, drop, ℤ, pos, negsuc, refl, ap, ◌∙◌, mul-zero, mul-suc, arith, lit<, w32, SFits}
-use Rattle.std.specs.List.{flat_map, AllByRecursion as All}
+use Rattle.std.specs.List.{flat_map, AllByRecursion}
 use Rattle.std.specs.Simd.{first_chunks}
 use Rattle.std.proofs.lemmas.Nat.{div-mul-add}
 use Rattle.std.proofs.lemmas.List.{take_at, drop_at, length-drop, length-map, take-append-drop}
@@ -16,7 +16,7 @@ use Rattle.reader.specs.RoundTrips.{IsByte, IsInt}
 use Rattle.reader.proofs.Indexed.{chunked_length}
 
 -- joined and cut apart
-pub chunked_joined : {X : Type 0} (f : X → List ℕ) (n : ℕ) (xs : List X) → All (λ x. length (f x) ≡ n) xs
+pub chunked_joined : {X : Type 0} (f : X → List ℕ) (n : ℕ) (xs : List X) → AllByRecursion (λ x. length (f x) ≡ n) xs
     → first_chunks n (length xs) (flat_map f xs) ≡ map f xs
 chunked_joined f n [] all = refl
 chunked_joined f n (x ∷ xs) all =
@@ -38,7 +38,7 @@ count_of n k some =
     let turned : n * k ≡ k * n + 0 = omega arith in
     ap (λ t. t / n) turned ∙ div-mul-add k n 0 some
 
-each_four : (zs : List ℤ) → All (λ z. length (xdr_int z) ≡ 4) zs
+each_four : (zs : List ℤ) → AllByRecursion (λ z. length (xdr_int z) ≡ 4) zs
 each_four [] = tt
 each_four (z ∷ zs) = (refl, each_four zs)
 
@@ -46,12 +46,12 @@ fits_int : (z : ℤ) → IsInt z → SFits w32 z
 fits_int (pos n) range = record { sfits = omega (arith, ints, range.1) }
 fits_int (negsuc n) range = record { sfits = omega (arith, ints, range.0) }
 
-ints_back : (zs : List ℤ) → All IsInt zs → map int_of (map xdr_int zs) ≡ zs
+ints_back : (zs : List ℤ) → AllByRecursion IsInt zs → map int_of (map xdr_int zs) ≡ zs
 ints_back [] all = refl
 ints_back (z ∷ zs) all =
     ap (λ t. t ∷ map int_of (map xdr_int zs)) (int_back z (fits_int z all.0)) ∙ ap (λ t. z ∷ t) (ints_back zs all.1)
 
-pub numbers_back : (numbers : List ℤ) → All IsInt numbers → numbers_in (xdr_ints numbers) ≡ numbers
+pub numbers_back : (numbers : List ℤ) → AllByRecursion IsInt numbers → numbers_in (xdr_ints numbers) ≡ numbers
 numbers_back numbers all =
     let count : length (xdr_ints numbers) / 4 ≡ length numbers =
     ap (λ t. t / 4) (xdr_ints_length numbers) ∙ count_of 4 (length numbers) (lit< tt) in
@@ -63,14 +63,14 @@ map_opaque : (runs : List (List ℕ)) → map xdr_opaque runs ≡ runs
 map_opaque [] = refl
 map_opaque (run ∷ runs) = ap (λ t. run ∷ t) (map_opaque runs)
 
-pub digests_back : (digests : List (List ℕ)) → All IsDigest digests → digests_in (xdr_opaques digests) ≡ digests
+pub digests_back : (digests : List (List ℕ)) → AllByRecursion IsDigest digests → digests_in (xdr_opaques digests) ≡ digests
 digests_back digests all =
     let count : length (xdr_opaques digests) / 32 ≡ length digests =
     ap (λ t. t / 32) (xdr_opaques_length 32 digests (each_digest digests all)) ∙ count_of 32 (length digests) (lit< tt) in
     ap (λ k. first_chunks 32 k (xdr_opaques digests)) count
     ∙ chunked_joined xdr_opaque 32 digests all ∙ map_opaque digests
 
-ints_joined : (k : ℕ) (bytes : List ℕ) → All IsByte bytes → length bytes ≡ 4 * k → xdr_ints (map int_of (first_chunks 4 k bytes)) ≡ bytes
+ints_joined : (k : ℕ) (bytes : List ℕ) → AllByRecursion IsByte bytes → length bytes ≡ 4 * k → xdr_ints (map int_of (first_chunks 4 k bytes)) ≡ bytes
 ints_joined zero [] all size = refl
 ints_joined zero (b ∷ bytes) all size = absurd (omega arith)
 ints_joined (suc k) [] all size = absurd (omega arith)
@@ -81,7 +81,7 @@ ints_joined (suc k) (a ∷ b ∷ c ∷ d ∷ bytes) all size =
     ap (λ t. t ++ xdr_ints (map int_of (first_chunks 4 k bytes))) (int_bytes_back a b c d all.0 all.1.0 all.1.1.0 all.1.1.1.0)
     ∙ ap (λ t. a ∷ b ∷ c ∷ d ∷ t) (ints_joined k bytes all.1.1.1.1 (omega arith))
 
-pub numbers_written : (k : ℕ) (bytes : List ℕ) → All IsByte bytes → length bytes ≡ 4 * k → xdr_ints (numbers_in bytes) ≡ bytes
+pub numbers_written : (k : ℕ) (bytes : List ℕ) → AllByRecursion IsByte bytes → length bytes ≡ 4 * k → xdr_ints (numbers_in bytes) ≡ bytes
 numbers_written k bytes all size =
     ap (λ n. xdr_ints (map int_of (first_chunks 4 n bytes))) (ap (λ t. t / 4) size ∙ count_of 4 k (lit< tt)) ∙ ints_joined k bytes all size
 

@@ -1,6 +1,6 @@
 -- Parts of lists of bytes: their sizes, parts in a row, parts of parts.
 use Rattle.std.proofs.Common.{◌≡◌, ℕ, ◌+◌, ◌-◌, ◌≤◌, List, ◌++◌, length, take, drop, sym, refl, ap, ◌∙◌, arith, take-add}
-use Rattle.std.specs.List.{AllByRecursion as All}
+use Rattle.std.specs.List.{AllByRecursion}
 use Rattle.std.proofs.ByRecursion.{All-take, All-drop}
 use Rattle.std.proofs.lemmas.List.{drop-drop, take-take, length-take-le, length-drop, take_at, drop_at}
 use Rattle.std.proofs.lemmas.Slice.{between_is}
@@ -10,7 +10,7 @@ use Rattle.reader.specs.RoundTrips.{IsByte}
 pub part_length : (bytes : List ℕ) (at n : ℕ) → at + n ≤ length bytes → length (part bytes at n) ≡ n
 part_length bytes at n within = length-take-le n (drop at bytes) (omega (arith, length-drop at bytes))
 
-pub part_bytes : (bytes : List ℕ) (at n : ℕ) → All IsByte bytes → All IsByte (part bytes at n)
+pub part_bytes : (bytes : List ℕ) (at n : ℕ) → AllByRecursion IsByte bytes → AllByRecursion IsByte (part bytes at n)
 part_bytes bytes at n all = All-take IsByte n (drop at bytes) (All-drop IsByte at bytes all)
 
 -- two parts in a row

@@ -1,6 +1,6 @@
 -- Writing what was read gives the bytes that were read.
 use Rattle.std.proofs.Common.{◌≡◌, ℕ, ◌+◌, ◌-◌, ◌*◌, ◌≤◌, List, [], ◌∷◌, ◌++◌, length, sym, ap, ◌∙◌, subst, arith}
-use Rattle.std.specs.List.{AllByRecursion as All}
+use Rattle.std.specs.List.{AllByRecursion}
 use Rattle.node.specs.Kinds.{string_length}
 use Rattle.node.specs.Strings.{string_of, xdr_ints, xdr_opaques}
 use Rattle.node.specs.Xdr.{xdr_uint, uint_of}
@@ -14,7 +14,7 @@ use Rattle.reader.proofs.Chunking.{numbers_written, digests_written}
 use Rattle.reader.proofs.Outcomes.{stands}
 use Rattle.reader.proofs.PartsOfParts.{part_length, part_bytes, part_join}
 
-word_back : (word : List ℕ) → length word ≡ 4 → All IsByte word → xdr_uint (uint_of word) ≡ word
+word_back : (word : List ℕ) → length word ≡ 4 → AllByRecursion IsByte word → xdr_uint (uint_of word) ≡ word
 word_back [] size all = absurd (omega arith)
 word_back (a ∷ []) size all = absurd (omega arith)
 word_back (a ∷ b ∷ []) size all = absurd (omega arith)
@@ -27,7 +27,7 @@ WrittenAs p seen =
     (string_of seen.kind (numbers_in seen.numbers) (digests_in seen.successors) ≡ seen.string)
     × (part p.bytes seen.begins (seen.ends - seen.begins) ≡ seen.string)
 
-here_written : (p : Position) (shape : Shape) → All IsByte p.bytes → string_length shape ≤ bytes_left p
+here_written : (p : Position) (shape : Shape) → AllByRecursion IsByte p.bytes → string_length shape ≤ bytes_left p
     → WrittenAs p (string_here p shape (uint_of (part p.bytes p.at 4)))
 here_written p shape all enough =
     let bytes = p.bytes in

@@ -1,6 +1,6 @@
 -- Strings written and read back.
 use Rattle.std.specs.Prelude.{◌≡◌, ℕ, ◌+◌, ◌-◌, ◌^◌, ◌<◌, ◌≤◌, List, ◌++◌, length, ℤ, pos, negsuc, ◌≤ℤ◌, Some, Ok}
-use Rattle.std.specs.List.{AllByRecursion as All}
+use Rattle.std.specs.List.{AllByRecursion}
 use Rattle.node.specs.Sizes.{IsDigest}
 use Rattle.digest.specs.Hashing.{hashed}
 use Rattle.node.specs.Strings.{string_of, node_digest}
@@ -33,7 +33,7 @@ pub record ReadBack (p : Position) (shape : Shape) (kind : ℕ) (numbers : List 
 abbrev pub WrittenIsReadBack : Type 0
 WrittenIsReadBack =
     (front rest : List ℕ) (shape : Shape) (kind : ℕ) (numbers : List ℤ) (digests : List (List ℕ))
-    → kind < 2 ^ 32 → All IsInt numbers → All IsDigest digests
+    → kind < 2 ^ 32 → AllByRecursion IsInt numbers → AllByRecursion IsDigest digests
     → shape.numbers ≡ length numbers → shape.successors ≡ length digests
     → (seen : StringSeen) × ReadBack (record { bytes = front ++ (string_of kind numbers digests ++ rest); at = length front }) shape kind numbers digests seen
 
@@ -41,7 +41,7 @@ WrittenIsReadBack =
 abbrev pub ReadIsWrittenBack : Type 0
 ReadIsWrittenBack =
     (p : Position) (shape : Shape) (seen : StringSeen)
-    → All IsByte p.bytes → read_string p shape ≡ Ok seen
+    → AllByRecursion IsByte p.bytes → read_string p shape ≡ Ok seen
     → (string_of seen.kind (numbers_in seen.numbers) (digests_in seen.successors) ≡ seen.string)
     × (part p.bytes seen.begins (seen.ends - seen.begins) ≡ seen.string)
 
@@ -49,7 +49,7 @@ ReadIsWrittenBack =
 abbrev pub ReadStringsAreHashed : Type 0
 ReadStringsAreHashed =
     (hash : List ℕ → List ℕ) (p : Position) (shape : Shape) (seen : StringSeen)
-    → All IsByte p.bytes → shape.numbers ≤ 4 → shape.successors ≤ 3 → read_string p shape ≡ Ok seen
+    → AllByRecursion IsByte p.bytes → shape.numbers ≤ 4 → shape.successors ≤ 3 → read_string p shape ≡ Ok seen
     → hashed hash seen.string ≡ Ok (node_digest hash seen.kind (numbers_in seen.numbers) (digests_in seen.successors))
 
 -- The digests of a string that was read stand in the proof at their places.

@@ -1,7 +1,7 @@
 -- What is true of every list of records that a register can hold.
 use Rattle.std.proofs.Common.{◌≡◌, ℕ, ◌<◌, ◌≤◌, Bool, true, false, List, [], ◌∷◌, length, ℤ, None, Option, sym, refl, ap, ◌∙◌, subst, ⊎_elim, arith}
 use lib.Signed.{lt_z, le_z}
-use Rattle.std.specs.List.{AllByRecursion as All}
+use Rattle.std.specs.List.{AllByRecursion}
 use Rattle.std.proofs.lemmas.Int.{ints}
 use Rattle.std.proofs.lemmas.Bool.{cases_Bool, cond-true, cond-false, or_parts, and_parts, and_from}
 use Rattle.refusal.specs.declared.Refusal.{Refusal}
@@ -25,12 +25,12 @@ int_le_apart a b n h = grind (arith, ints)
 
 module _ {R : Type 0} (number_of : R → ℤ) where
   -- what is true of each record is true of each that is left
-  pub all_taken_out : (P : R → Type 0) (n : ℤ) (rs : List R) → All P rs → All P (taken_out number_of n rs)
+  pub all_taken_out : (P : R → Type 0) (n : ℤ) (rs : List R) → AllByRecursion P rs → AllByRecursion P (taken_out number_of n rs)
   all_taken_out P n [] h = tt
   all_taken_out P n (r ∷ rs) h =
       ⊎_elim
-      (λ t. subst (All P) (sym (cond-true _ rs (r ∷ taken_out number_of n rs) t)) h.1)
-      (λ f. subst (All P) (sym (cond-false _ rs (r ∷ taken_out number_of n rs) f)) (h.0, all_taken_out P n rs h.1))
+      (λ t. subst (AllByRecursion P) (sym (cond-true _ rs (r ∷ taken_out number_of n rs) t)) h.1)
+      (λ f. subst (AllByRecursion P) (sym (cond-false _ rs (r ∷ taken_out number_of n rs) f)) (h.0, all_taken_out P n rs h.1))
       (cases_Bool (same_number (number_of r) n))
 
   length_taken_out : (n : ℤ) (rs : List R) → length (taken_out number_of n rs) ≤ length rs
@@ -51,7 +51,7 @@ module _ {R : Type 0} (number_of : R → ℤ) where
       (cases_Bool (same_number (number_of r) n))
 
   -- no record among them has a number that is not held
-  not_among : (n : ℤ) (rs : List R) → holds number_of n rs ≡ false → All (λ r. number_of r ≡ n → ⊥) rs
+  not_among : (n : ℤ) (rs : List R) → holds number_of n rs ≡ false → AllByRecursion (λ r. number_of r ≡ n → ⊥) rs
   not_among n [] h = tt
   not_among n (r ∷ rs) h =
       let parts = or_parts (same_number (number_of r) n) (holds number_of n rs) h in
@@ -66,13 +66,13 @@ module _ {R : Type 0} (number_of : R → ℤ) where
   after_placing : (x y : R) → by_number number_of y x ≡ false → is_before number_of x y ≡ true
   after_placing x y h = not_le_z (number_of y) (number_of x) h
 
-  before_placing : (x : R) (rs : List R) → All (λ r. number_of r ≡ number_of x → ⊥) rs → All (λ y. by_number number_of y x ≡ true → is_before number_of y x ≡ true) rs
+  before_placing : (x : R) (rs : List R) → AllByRecursion (λ r. number_of r ≡ number_of x → ⊥) rs → AllByRecursion (λ y. by_number number_of y x ≡ true → is_before number_of y x ≡ true) rs
   before_placing x [] h = tt
   before_placing x (y ∷ ys) h = (int_le_apart (number_of y) (number_of x) h.0, before_placing x ys h.1)
 
 module _ {R : Type 0} (number_of : R → ℤ) (add_refusal : List R → R → Option Refusal) where
   -- what every added record has, every held record has
-  pub holdable_all : (P : R → Type 0) → ((rs : List R) (r : R) → add_refusal rs r ≡ None → P r) → (rs : List R) → Holdable number_of add_refusal rs → All P rs
+  pub holdable_all : (P : R → Type 0) → ((rs : List R) (r : R) → add_refusal rs r ≡ None → P r) → (rs : List R) → Holdable number_of add_refusal rs → AllByRecursion P rs
   holdable_all P given _ fresh = tt
   holdable_all P given _ (added {rs} r h free) = all_placed P (by_number number_of) r rs (given rs r free) (holdable_all P given rs h)
   holdable_all P given _ (removed {rs} n h held) = all_taken_out number_of P n rs (holdable_all P given rs h)

@@ -1,6 +1,6 @@
 -- How many bytes the strings of visited nodes have.
 use Rattle.std.proofs.Common.{◌≡◌, ℕ, ◌+◌, ◌<◌, List, [], ◌∷◌, ◌++◌, length, refl, ◌∙◌, arith, length-append}
-use Rattle.std.specs.List.{AllByRecursion as All}
+use Rattle.std.specs.List.{AllByRecursion}
 use Rattle.std.proofs.ByRecursion.{All-push, All-weaker}
 use Rattle.node.specs.Sizes.{IsDigest}
 use Rattle.node.proofs.Encodings.{string_length_lem}
@@ -20,19 +20,19 @@ length_digests hash before (n ∷ nodes) =
     let e = length_digests hash (before ++ hash (string_in before n) ∷ []) nodes in
     omega (arith, e, length-append before (hash (string_in before n) ∷ []))
 
-all_digests : (hash : List ℕ → List ℕ) → HasDigests hash → (before : List (List ℕ)) (nodes : List Node) → All IsDigest before → All IsDigest (digests_from hash before nodes)
+all_digests : (hash : List ℕ → List ℕ) → HasDigests hash → (before : List (List ℕ)) (nodes : List Node) → AllByRecursion IsDigest before → AllByRecursion IsDigest (digests_from hash before nodes)
 all_digests hash are before [] h = h
 all_digests hash are before (n ∷ nodes) h =
     all_digests hash are (before ++ hash (string_in before n) ∷ []) nodes (All-push IsDigest before (hash (string_in before n)) h (are (string_in before n)))
 
 -- a sound node's string
-pub string_bytes_lem : {Q : Type 0} (judging : Judging Q) (digests : List (List ℕ)) (place : ℕ) (n : Node) → All IsDigest digests → place < length digests → Sound judging place n → length (string_in digests n) ≡ string_bytes n
+pub string_bytes_lem : {Q : Type 0} (judging : Judging Q) (digests : List (List ℕ)) (place : ℕ) (n : Node) → AllByRecursion IsDigest digests → place < length digests → Sound judging place n → length (string_in digests n) ≡ string_bytes n
 string_bytes_lem judging digests place n all bound sound =
     let few = picks_each digests n.successors (All-weaker (λ p. p < place) (λ p. p < length digests) (λ p h. omega arith) n.successors sound.before) in
     let e = string_length_lem n.kind n.numbers (picks digests n.successors) (each_digest (picks digests n.successors) (all_picks IsDigest digests n.successors all)) in
     omega (arith, e, few)
 
-walk_bytes : {Q : Type 0} (judging : Judging Q) (q : Q) (limit : ℕ) (figure : List Node) (digests : List (List ℕ)) → All IsDigest digests → length digests ≡ length figure → IsFigure judging figure
+walk_bytes : {Q : Type 0} (judging : Judging Q) (q : Q) (limit : ℕ) (figure : List Node) (digests : List (List ℕ)) → AllByRecursion IsDigest digests → length digests ≡ length figure → IsFigure judging figure
     → (waiting : List ℕ) (visited : List Node) (emitted : List ℕ) → Walk judging q limit figure waiting visited emitted → length (strings_of digests visited) ≡ bytes_of visited
 walk_bytes judging q limit figure digests all long sound _ _ _ ended = refl
 walk_bytes judging q limit figure digests all long sound _ _ _ (taken {place} {waiting} {node = n} {visited} {emitted} at few rest) =

@@ -1,6 +1,6 @@
 -- The draft of a rose is its figure, record by record.
 use Rattle.std.proofs.Common.{◌≡◌, ℕ, suc, ◌≤◌, min, Bool, true, false, cond, eqb, leb, List, [], ◌∷◌, ◌++◌, map, length, take, drop, replicate, pos, Some, None, Ok, Err, Option, Result, sym, refl, ap, ◌∙◌, subst, arith}
-use Rattle.std.specs.List.{AllByRecursion as All}
+use Rattle.std.specs.List.{AllByRecursion}
 use Rattle.std.proofs.ByRecursion.{All-push}
 use Rattle.std.proofs.lemmas.List.{take-take, take-append-le, take_all, map-append, length-map, take-map}
 use Rattle.std.proofs.lemmas.Bool.{and_parts, and_from}
@@ -64,7 +64,7 @@ module _ {Q : Type 0} (judging : Judging Q) (well : JudgesWell judging) where
   alike_as_records n m here there =
       decides_same (n ≡ m) (alike_records (record_of n) (record_of m)) (alike n m) (records_same n m here there, λ e. records_refl (record_of n) (record_of m) (ap record_of e)) (alike_same n m, alike_refl n m)
 
-  found_as_records : (p : ℕ) (n : Node) (nodes : List Node) → Shaped judging n → All (Shaped judging) nodes → alike_record_from p (record_of n) (map record_of nodes) ≡ alike_from p n nodes
+  found_as_records : (p : ℕ) (n : Node) (nodes : List Node) → Shaped judging n → AllByRecursion (Shaped judging) nodes → alike_record_from p (record_of n) (map record_of nodes) ≡ alike_from p n nodes
   found_as_records p n [] here all = refl
   found_as_records p n (m ∷ nodes) here all =
       ap (λ (b : Bool). cond b (Some p) (alike_record_from (suc p) (record_of n) (map record_of nodes))) (alike_as_records n m here all.0) ∙ ap (cond (alike n m) (Some p)) (found_as_records (suc p) n nodes here all.1)
@@ -75,7 +75,7 @@ module _ {Q : Type 0} (judging : Judging Q) (well : JudgesWell judging) where
   abbrev drafts_of : MadeEach → DraftEach
   drafts_of m = record { records = map record_of m.nodes; places = m.places }
 
-  draft_node : (nodes : List Node) (n : Node) → Shaped judging n → All (Shaped judging) nodes → (drafted_record (map record_of nodes) (record_of n) ≡ draft_of (made_node nodes n)) × All (Shaped judging) (made_node nodes n).nodes
+  draft_node : (nodes : List Node) (n : Node) → Shaped judging n → AllByRecursion (Shaped judging) nodes → (drafted_record (map record_of nodes) (record_of n) ≡ draft_of (made_node nodes n)) × AllByRecursion (Shaped judging) (made_node nodes n).nodes
   draft_node nodes n here all =
       (ap (found_or_added (map record_of nodes) (record_of n)) (found_as_records 0 n nodes here all) ∙ same (place_of_alike n nodes), shaped (place_of_alike n nodes))
     where
@@ -86,28 +86,28 @@ module _ {Q : Type 0} (judging : Judging Q) (well : JudgesWell judging) where
           let k = length-map nodes record_of in
           λ i. record { records = rs i; place = k i }
 
-      shaped : (o : Option ℕ) → All (Shaped judging) (found_or_next nodes n o).nodes
+      shaped : (o : Option ℕ) → AllByRecursion (Shaped judging) (found_or_next nodes n o).nodes
       shaped (Some p) = all
       shaped None = All-push (Shaped judging) nodes n all here
 
   pub record IsDraft (nodes : List Node) (r : Rose) : Type 0 where
     pub same : drafted (map record_of nodes) r ≡ draft_of (made nodes r)
-    pub shaped : All (Shaped judging) (made nodes r).nodes
+    pub shaped : AllByRecursion (Shaped judging) (made nodes r).nodes
 
   pub record AreDrafts (nodes : List Node) (rs : Roses) : Type 0 where
     pub same : drafted_each (map record_of nodes) rs ≡ drafts_of (made_each nodes rs)
-    pub shaped : All (Shaped judging) (made_each nodes rs).nodes
+    pub shaped : AllByRecursion (Shaped judging) (made_each nodes rs).nodes
     pub many : length (made_each nodes rs).places ≡ how_many rs
 
   mutual
-    pub draft_rose : (nodes : List Node) (r : Rose) → All (Shaped judging) nodes → FitsWhole judging r → IsDraft nodes r
+    pub draft_rose : (nodes : List Node) (r : Rose) → AllByRecursion (Shaped judging) nodes → FitsWhole judging r → IsDraft nodes r
     draft_rose nodes (grown k zs rs) all fits =
         let each = draft_roses nodes rs all fits.1 in
         let shape : Shaped judging (node k zs (made_each nodes rs).places) = record { shape = fits.0.shape; known = fits.0.judgeable.known; numbers = fits.0.judgeable.counted; successors = each.many ∙ fits.0.joined } in
         let here = draft_node (made_each nodes rs).nodes (node k zs (made_each nodes rs).places) shape each.shaped in
         record { same = ap (λ (d : DraftEach). drafted_record d.records (record_of (node k zs d.places))) each.same ∙ here.0; shaped = here.1 }
 
-    pub draft_roses : (nodes : List Node) (rs : Roses) → All (Shaped judging) nodes → FitEach judging rs → AreDrafts nodes rs
+    pub draft_roses : (nodes : List Node) (rs : Roses) → AllByRecursion (Shaped judging) nodes → FitEach judging rs → AreDrafts nodes rs
     draft_roses nodes end all fits = record { same = refl; shaped = all; many = refl }
     draft_roses nodes (more r rs) all fits =
         let first = draft_rose nodes r all fits.0 in

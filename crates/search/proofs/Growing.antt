@@ -1,6 +1,6 @@
 -- Making a rose only adds nodes, and leaves the rose standing at the place answered.
 use Rattle.std.proofs.Common.{◌≡◌, ℕ, suc, ◌+◌, ◌<◌, ◌≤◌, Bool, true, false, eqb, ◌⊎◌, List, [], ◌∷◌, ◌++◌, length, ℤ, Some, None, Option, sym, refl, ap, ◌∙◌, subst, inl, inr, ⊎_elim, append_assoc, arith, length-append}
-use Rattle.std.specs.List.{slice_get, AllByRecursion as All}
+use Rattle.std.specs.List.{slice_get, AllByRecursion}
 use Rattle.std.proofs.lemmas.Bool.{cases_Bool, cases_lt, cond-true, cond-false, and_parts}
 use Rattle.std.proofs.lemmas.List.{append-nil}
 use Rattle.std.proofs.lemmas.Int.{ints}
@@ -82,10 +82,10 @@ mutual
 stands_bound : (nodes : List Node) (r : Rose) (p : ℕ) → Stands nodes r p → p < length nodes
 stands_bound nodes (grown k zs rs) p h = nth_bound nodes p _ h.1
 
-stand_each_bound : (nodes : List Node) (rs : Roses) (places : List ℕ) → StandEach nodes rs places → All (λ s. s < length nodes) places
-stand_each_bound nodes end places h = subst (All (λ (s : ℕ). s < length nodes)) (sym h) tt
+stand_each_bound : (nodes : List Node) (rs : Roses) (places : List ℕ) → StandEach nodes rs places → AllByRecursion (λ s. s < length nodes) places
+stand_each_bound nodes end places h = subst (AllByRecursion (λ (s : ℕ). s < length nodes)) (sym h) tt
 stand_each_bound nodes (more r rs) places h =
-    subst (All (λ (s : ℕ). s < length nodes)) (sym h.2) (stands_bound nodes r h.0 h.3, stand_each_bound nodes rs h.1 h.4)
+    subst (AllByRecursion (λ (s : ℕ). s < length nodes)) (sym h.2) (stands_bound nodes r h.0 h.3, stand_each_bound nodes rs h.1 h.4)
 
 pub stand_each_length : (nodes : List Node) (rs : Roses) (places : List ℕ) → StandEach nodes rs places → length places ≡ how_many rs
 stand_each_length nodes end places h = ap length h
@@ -117,10 +117,10 @@ pub record AreMade (P : Rose → Type 0) (nodes : List Node) (rs : Roses) (m : M
   pub covered : Covered P m.nodes
 
 -- a node found at a place where a rose stands has its successors before it
-before_found : (nodes : List Node) (s : Rose) (p : ℕ) (k : ℕ) (zs : List ℤ) (places : List ℕ) → Stands nodes s p → slice_get nodes p ≡ Some (node k zs places) → All (λ q. q < p) places
+before_found : (nodes : List Node) (s : Rose) (p : ℕ) (k : ℕ) (zs : List ℤ) (places : List ℕ) → Stands nodes s p → slice_get nodes p ≡ Some (node k zs places) → AllByRecursion (λ q. q < p) places
 before_found nodes (grown l ws rs) p k zs places h found =
     let same = some_same _ _ (sym h.1 ∙ found) in
-    subst (All (λ (q : ℕ). q < p)) (node_parts l k ws zs h.0 places same).2 h.3
+    subst (AllByRecursion (λ (q : ℕ). q < p)) (node_parts l k ws zs h.0 places same).2 h.3
 
 covered_later : (P : Rose → Type 0) (nodes : List Node) (r : Rose) (new : Node) → Covered P nodes → Stands (nodes ++ new ∷ []) r (length nodes) → P r → Covered P (nodes ++ new ∷ [])
 covered_later P nodes r new covered stands holds p bound =

@@ -1,6 +1,6 @@
 -- Elements at the places of a list.
 use Rattle.std.proofs.Common.{◌≡◌, ℕ, zero, suc, ◌<◌, ◌≤◌, List, [], ◌∷◌, ◌++◌, length, Some, None, Option, refl, ap, subst, arith}
-use Rattle.std.specs.List.{slice_get, AllByRecursion as All}
+use Rattle.std.specs.List.{slice_get, AllByRecursion}
 use Rattle.search.specs.Picks.{ahead, picks}
 
 pub not_both : {X : Type 0} (x : X) → None ≡ Some x → ⊥
@@ -35,16 +35,16 @@ pub ahead_append : {X : Type 0} (o : Option X) (xs ys : List X) → ahead o xs +
 ahead_append None xs ys = refl
 ahead_append (Some x) xs ys = refl
 
-nth_all : {X : Type 0} (P : X → Type 0) (xs : List X) (i : ℕ) (x : X) → All P xs → slice_get xs i ≡ Some x → P x
+nth_all : {X : Type 0} (P : X → Type 0) (xs : List X) (i : ℕ) (x : X) → AllByRecursion P xs → slice_get xs i ≡ Some x → P x
 nth_all P [] i x h at = absurd (not_both x at)
 nth_all P (y ∷ xs) zero x h at = let e : y ≡ x = cc in subst P e h.0
 nth_all P (y ∷ xs) (suc i) x h at = nth_all P xs i x h.1 at
 
-pub all_picks : {X : Type 0} (P : X → Type 0) (xs : List X) (places : List ℕ) → All P xs → All P (picks xs places)
+pub all_picks : {X : Type 0} (P : X → Type 0) (xs : List X) (places : List ℕ) → AllByRecursion P xs → AllByRecursion P (picks xs places)
 all_picks P xs [] h = tt
 all_picks P xs (place ∷ places) h = go (slice_get xs place) refl (all_picks P xs places h)
   where
-    go : (o : Option _) → slice_get xs place ≡ o → All P (picks xs places) → All P (ahead o (picks xs places))
+    go : (o : Option _) → slice_get xs place ≡ o → AllByRecursion P (picks xs places) → AllByRecursion P (ahead o (picks xs places))
     go None at rest = rest
     go (Some x) at rest = (nth_all P xs place x h at, rest)
 
@@ -53,7 +53,7 @@ nth_not_past [] i h at = omega arith
 nth_not_past (x ∷ xs) zero h at = let z : ◌≡◌ {A = ℕ} 0 1 = cc in omega arith
 nth_not_past (x ∷ xs) (suc i) h at = nth_not_past xs i (omega arith) at
 
-pub picks_each : {X : Type 0} (xs : List X) (places : List ℕ) → All (λ p. p < length xs) places → length (picks xs places) ≡ length places
+pub picks_each : {X : Type 0} (xs : List X) (places : List ℕ) → AllByRecursion (λ p. p < length xs) places → length (picks xs places) ≡ length places
 picks_each xs [] h = refl
 picks_each xs (place ∷ places) h = go (slice_get xs place) refl (picks_each xs places h.1)
   where

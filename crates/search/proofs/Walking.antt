@@ -1,6 +1,6 @@
 -- The walk of a rose's figure, and that every walk has one result.
 use Rattle.std.proofs.Common.{◌≡◌, ℕ, zero, suc, ◌+◌, ◌*◌, ◌<◌, ◌≤◌, max, leb, List, [], ◌∷◌, ◌++◌, length, ℤ, Some, Option, sym, refl, ap, ◌∙◌, subst, append_assoc, arith, length-append}
-use Rattle.std.specs.List.{flat_map, slice_get, AllByRecursion as All}
+use Rattle.std.specs.List.{flat_map, slice_get, AllByRecursion}
 use Rattle.std.proofs.ByRecursion.{All-weaker}
 use Rattle.std.proofs.lemmas.List.{append-nil}
 use Rattle.slices.specs.Order.{sorted}
@@ -96,10 +96,10 @@ module _ {Q : Type 0} (judging : Judging Q) (q : Q) where
     length_crowds (more r rs) = ap suc (length_crowds rs)
 
     -- one crowd for each way
-    picked_crowds : (rs : Roses) (ws : List ℕ) → All (λ w. w < how_many rs) ws → length (picks (crowd_each judging q rs) ws) ≡ length ws
-    picked_crowds rs ws h = picks_each (crowd_each judging q rs) ws (subst (λ (n : ℕ). All (λ w. w < n) ws) (sym (length_crowds rs)) h)
+    picked_crowds : (rs : Roses) (ws : List ℕ) → AllByRecursion (λ w. w < how_many rs) ws → length (picks (crowd_each judging q rs) ws) ≡ length ws
+    picked_crowds rs ws h = picks_each (crowd_each judging q rs) ws (subst (λ (n : ℕ). AllByRecursion (λ w. w < n) ws) (sym (length_crowds rs)) h)
 
-    walk_ways : (rs : Roses) (places : List ℕ) → ((way : ℕ) → way < how_many rs → Way rs places way) → (ws : List ℕ) → All (λ w. w < how_many rs) ws
+    walk_ways : (rs : Roses) (places : List ℕ) → ((way : ℕ) → way < how_many rs → Way rs places way) → (ws : List ℕ) → AllByRecursion (λ w. w < how_many rs) ws
         → (waiting : List ℕ) (vs : List Node) (es : List ℕ) → crowd_of (picks (crowd_each judging q rs) ws) + length waiting ≤ limit → Walk judging q limit figure waiting vs es
         → Reached (flat_map (λ visited. visited) (picks (visit_each judging q rs) ws)) (picks places ws) waiting vs es
     walk_ways rs places at [] h waiting vs es room walk = record { nodes = []; walk = walk; are = tt }
@@ -114,12 +114,12 @@ module _ {Q : Type 0} (judging : Judging Q) (q : Q) where
     somebody : (r : Rose) → 1 ≤ crowd judging q r
     somebody (grown k zs rs) = omega arith
 
-    somebody_each : (rs : Roses) → All (λ c. 1 ≤ c) (crowd_each judging q rs)
+    somebody_each : (rs : Roses) → AllByRecursion (λ c. 1 ≤ c) (crowd_each judging q rs)
     somebody_each end = tt
     somebody_each (more r rs) = (somebody r, somebody_each rs)
 
     -- at first, all of them wait
-    all_wait : (cs : List ℕ) → All (λ c. 1 ≤ c) cs → length cs ≤ crowd_of cs
+    all_wait : (cs : List ℕ) → AllByRecursion (λ c. 1 ≤ c) cs → length cs ≤ crowd_of cs
     all_wait [] h = omega arith
     all_wait (c ∷ cs) h = omega (arith, h.0)
 
@@ -127,7 +127,7 @@ module _ {Q : Type 0} (judging : Judging Q) (q : Q) where
       walk_grown : (k : ℕ) (zs : List ℤ) (rs : Roses) (p : ℕ) (stands : Stands figure (grown k zs rs) p) → Fits judging k zs rs → ((way : ℕ) → way < how_many rs → Way rs stands.0 way) → Walkable (grown k zs rs) p
       walk_grown k zs rs p stands fits at waiting vs es room walk =
           let ways = (judging.judge q k zs).ways in
-          let within = subst (λ (m : ℕ). All (λ w. w < m) (judging.judge q k zs).ways) (sym fits.joined) (well.ways_in_shape q k zs fits.shape fits.judgeable) in
+          let within = subst (λ (m : ℕ). AllByRecursion (λ w. w < m) (judging.judge q k zs).ways) (sym fits.joined) (well.ways_in_shape q k zs fits.shape fits.judgeable) in
           let many = picked_crowds rs (judging.judge q k zs).ways within in
           let low = all_wait (picks (crowd_each judging q rs) (judging.judge q k zs).ways) (all_picks (λ c. 1 ≤ c) (crowd_each judging q rs) (judging.judge q k zs).ways (somebody_each rs)) in
           let later = walk_ways rs stands.0 at (judging.judge q k zs).ways within waiting vs es (omega arith) walk in
@@ -162,7 +162,7 @@ crowds_are_allowed judging well q limit r fits low =
     }
 
 -- two ways at most, of which the second waits while the first is walked
-few_in_crowd : (n : ℕ) (cs : List ℕ) → length cs ≤ 2 → All (λ c. c ≤ n) cs → crowd_of cs ≤ suc n
+few_in_crowd : (n : ℕ) (cs : List ℕ) → length cs ≤ 2 → AllByRecursion (λ c. c ≤ n) cs → crowd_of cs ≤ suc n
 few_in_crowd n [] few h = omega arith
 few_in_crowd n (a ∷ []) few h = omega (arith, h.0)
 few_in_crowd n (a ∷ b ∷ []) few h = omega (arith, h.0, h.1.0)
@@ -175,7 +175,7 @@ mutual
       let small = few_in_crowd (levels_of_each rs) (picks (crowd_each judging q rs) (judging.judge q k zs).ways) (omega (arith, few, length_picks (crowd_each judging q rs) (judging.judge q k zs).ways)) (all_picks (λ c. c ≤ levels_of_each rs) (crowd_each judging q rs) (judging.judge q k zs).ways (each_small judging well q rs fits.1)) in
       omega (arith, small)
 
-  each_small : {Q : Type 0} (judging : Judging Q) → JudgesWell judging → (q : Q) (rs : Roses) → FitEach judging rs → All (λ c. c ≤ levels_of_each rs) (crowd_each judging q rs)
+  each_small : {Q : Type 0} (judging : Judging Q) → JudgesWell judging → (q : Q) (rs : Roses) → FitEach judging rs → AllByRecursion (λ c. c ≤ levels_of_each rs) (crowd_each judging q rs)
   each_small judging well q end fits = tt
   each_small judging well q (more r rs) fits =
       (omega (arith, crowds_are_small judging well q r fits.0), All-weaker (λ c. c ≤ levels_of_each rs) (λ c. c ≤ levels_of_each (more r rs)) (λ c h. omega arith) (crowd_each judging q rs) (each_small judging well q rs fits.1))

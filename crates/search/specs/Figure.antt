@@ -1,6 +1,6 @@
 -- Figures: lists of sound nodes, successors before their node, the root last.
 use Rattle.std.specs.Prelude.{◌≡◌, ℕ, ◌-◌, ◌<◌, List, length, Some}
-use Rattle.std.specs.List.{slice_get, AllByRecursion as All}
+use Rattle.std.specs.List.{slice_get, AllByRecursion}
 use Rattle.node.specs.declared.shape.Shape.{Shape}
 use Rattle.search.specs.Node.{Node}
 use Rattle.search.specs.Judging.{Judging, Judgeable}
@@ -11,7 +11,7 @@ pub record Sound {Q : Type 0} (judging : Judging Q) (place : ℕ) (node : Node) 
   pub shape : Shape
   pub judgeable : Judgeable judging shape node.kind node.numbers
   pub joined : length node.successors ≡ shape.successors
-  pub before : All (λ successor. successor < place) node.successors
+  pub before : AllByRecursion (λ successor. successor < place) node.successors
 
 pub record IsFigure {Q : Type 0} (judging : Judging Q) (figure : List Node) : Type 0 where
   pub some : 0 < length figure

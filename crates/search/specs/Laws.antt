@@ -1,6 +1,6 @@
 -- What every chart kind shows.
 use Rattle.std.specs.Prelude.{◌≡◌, ℕ, ◌<◌, ◌≤◌, true, false, List, length, ℤ, Some, None, nat_le}
-use Rattle.std.specs.List.{ContainsAt as Has, AllByRecursion as All}
+use Rattle.std.specs.List.{ContainsAt, AllByRecursion}
 use Rattle.node.specs.declared.shape.Shape.{Shape}
 use Rattle.records.specs.Held.{holds}
 use Rattle.slices.specs.Order.{sorted}
@@ -30,7 +30,7 @@ pub record JudgesWell {Q : Type 0} (judging : Judging Q) : Type 0 where
   pub few_successors : (kind : ℕ) (shape : Shape) → judging.shape_of kind ≡ Some shape → shape.successors ≤ 3
   -- Judging names at most two ways, each a successor in the shape, and emits at most one number, of 16 bits.
   pub few_ways : (question : Q) (kind : ℕ) (numbers : List ℤ) (shape : Shape) → Judgeable judging shape kind numbers → length (judging.judge question kind numbers).ways ≤ 2
-  pub ways_in_shape : (question : Q) (kind : ℕ) (numbers : List ℤ) (shape : Shape) → Judgeable judging shape kind numbers → All (λ way. way < shape.successors) (judging.judge question kind numbers).ways
+  pub ways_in_shape : (question : Q) (kind : ℕ) (numbers : List ℤ) (shape : Shape) → Judgeable judging shape kind numbers → AllByRecursion (λ way. way < shape.successors) (judging.judge question kind numbers).ways
   pub small_emissions : (question : Q) (kind : ℕ) (numbers : List ℤ) (shape : Shape) (number : ℕ) → Judgeable judging shape kind numbers → (judging.judge question kind numbers).emits ≡ Some number → number < 65536
 
 pub record Laws {R Q : Type 0} (judging : Judging Q) (drawing : Drawing R Q) : Type 0 where
@@ -46,4 +46,4 @@ pub record Laws {R Q : Type 0} (judging : Judging Q) (drawing : Drawing R Q) : T
 abbrev pub SameMembersSameList : {R Q : Type 0} → Drawing R Q → Type 0
 SameMembersSameList {R} drawing =
     (held other : List R) → CanBeHeld drawing held → CanBeHeld drawing other
-    → ((r : R) → Has held r → Has other r) → ((r : R) → Has other r → Has held r) → held ≡ other
+    → ((r : R) → ContainsAt held r → ContainsAt other r) → ((r : R) → ContainsAt other r → ContainsAt held r) → held ≡ other

@@ -1,7 +1,7 @@
 -- Figures made from roses: the successors of a node are made first, in their order, then the node. A node alike to one made
 -- earlier is that one; any other takes the next place.
 use Rattle.std.specs.Prelude.{◌≡◌, ℕ, suc, ◌<◌, Bool, true, false, cond, ◌&&◌, List, [], ◌∷◌, ◌++◌, length, Some, None, Option, ◌==◌, nat_eq}
-use Rattle.std.specs.List.{slice_get, AllByRecursion as All}
+use Rattle.std.specs.List.{slice_get, AllByRecursion}
 use Rattle.records.specs.Held.{same_number}
 use Rattle.search.specs.Node.{Node}
 use Rattle.search.specs.Figure.{root_of}
@@ -71,7 +71,7 @@ RootIsLast = (rose : Rose) → ((made [] rose).place ≡ root_of (figure_of rose
 abbrev mutual
   pub Stands : List Node → Rose → ℕ → Type 0
   Stands figure (grown kind numbers rs) place =
-      (successors : List ℕ) × (slice_get figure place ≡ Some (record { kind = kind; numbers = numbers; successors = successors })) × StandEach figure rs successors × All (λ successor. successor < place) successors
+      (successors : List ℕ) × (slice_get figure place ≡ Some (record { kind = kind; numbers = numbers; successors = successors })) × StandEach figure rs successors × AllByRecursion (λ successor. successor < place) successors
 
   pub StandEach : List Node → Roses → List ℕ → Type 0
   StandEach figure end places = places ≡ []

@@ -1,7 +1,7 @@
 -- What a visit of a figure of sites emits.
 use Rattle.std.proofs.Common.{◌≡◌, ℕ, true, false, cond, ◌||◌, leb, List, [], ◌∷◌, ◌++◌, map, ℤ, sym, refl, ap, ◌∙◌, ⊎_elim, arith}
 use lib.Signed.{le_z, lt_z}
-use Rattle.std.specs.List.{flat_map, AllByRecursion as All}
+use Rattle.std.specs.List.{flat_map, AllByRecursion}
 use Rattle.std.specs.List.Sorted.{IsPermutation}
 use Rattle.std.proofs.lemmas.List.{append-nil}
 use Rattle.std.proofs.ByRecursion.{All-weaker}
@@ -40,12 +40,12 @@ unreached a b low high z h above below =
     ⊎_elim (λ e. and_left (le_z a z) (le_z z b) (below_side a high z e below)) (λ e. and_right (le_z a z) (le_z z b) (above_side b low z e above))
     (or_cases (lt_z high a) (lt_z b low) h)
 
-both_all : {X : Type 0} (P Q R : X → Type 0) → ((x : X) → P x → Q x → R x) → (xs : List X) → All P xs → All Q xs → All R xs
+both_all : {X : Type 0} (P Q R : X → Type 0) → ((x : X) → P x → Q x → R x) → (xs : List X) → AllByRecursion P xs → AllByRecursion Q xs → AllByRecursion R xs
 both_all P Q R f [] ps qs = tt
 both_all P Q R f (x ∷ xs) ps qs = (f x ps.0 qs.0, both_all P Q R f xs ps.1 qs.1)
 
 all_unreached : (coordinate : SiteRecord → ℤ) (a b : ℤ) (sites : List SiteRecord)
-    → (lt_z (greatest (map coordinate sites)) a || lt_z b (least (map coordinate sites))) ≡ true → All (λ s. within a b (coordinate s) ≡ false) sites
+    → (lt_z (greatest (map coordinate sites)) a || lt_z b (least (map coordinate sites))) ≡ true → AllByRecursion (λ s. within a b (coordinate s) ≡ false) sites
 all_unreached coordinate a b sites h =
     let low : ℤ = least (map coordinate sites) in
     let high : ℤ = greatest (map coordinate sites) in

@@ -1,6 +1,6 @@
 -- Every node of a figure of sites is fit and of its shape.
 use Rattle.std.proofs.Common.{◌≡◌, true, ◌&&◌, List, ◌++◌, map, ℤ, refl}
-use Rattle.std.specs.List.{AllByRecursion as All}
+use Rattle.std.specs.List.{AllByRecursion}
 use Rattle.std.proofs.lemmas.Bool.{and_parts, and_from}
 use Rattle.std.proofs.ByRecursion.{All-weaker, All-map}
 use Rattle.records.specs.declared.raw.SiteRecord.{SiteRecord}
@@ -18,7 +18,7 @@ use Rattle.site_figure.proofs.SortedTrees.{all_left, all_right, all_sorted_leave
 use Rattle.site_figure.proofs.Spans.{least_one, greatest_one, least_below_greatest}
 
 abbrev pub AllSites : List SiteRecord → Type 0
-AllSites sites = All (λ s. is_site s ≡ true) sites
+AllSites sites = AllByRecursion (λ s. is_site s ≡ true) sites
 
 x_in_range : (s : SiteRecord) → is_site s ≡ true → is_coordinate s.x ≡ true
 x_in_range s h =
@@ -28,7 +28,7 @@ y_in_range : (s : SiteRecord) → is_site s ≡ true → is_coordinate s.y ≡ t
 y_in_range s h = (and_parts (is_record_number s.number && is_coordinate s.x) (is_coordinate s.y) h).1
 
 -- a span of coordinates runs forward
-span_runs : (zs : List ℤ) → All (λ z. is_coordinate z ≡ true) zs → runs_forward (least zs) (greatest zs) ≡ true
+span_runs : (zs : List ℤ) → AllByRecursion (λ z. is_coordinate z ≡ true) zs → runs_forward (least zs) (greatest zs) ≡ true
 span_runs zs h =
     let low : is_coordinate (least zs) ≡ true = least_one (λ z. is_coordinate z ≡ true) refl zs h in
     let high : is_coordinate (greatest zs) ≡ true = greatest_one (λ z. is_coordinate z ≡ true) refl zs h in

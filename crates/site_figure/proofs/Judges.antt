@@ -1,7 +1,7 @@
 -- Judging names few ways, each in the shape, and emits small numbers.
 use Rattle.std.proofs.Common.{◌≡◌, ℕ, ◌<◌, ◌≤◌, Bool, true, cond, ◌&&◌, ◌||◌, eqb, leb, List, length, ℤ, pos, negsuc, nat_abs, Some, None, Option, subst, arith}
 use lib.Signed.{le_z, lt_z}
-use Rattle.std.specs.List.{AllByRecursion as All}
+use Rattle.std.specs.List.{AllByRecursion}
 use Rattle.std.proofs.lemmas.Bool.{cond_both, and_parts, leb-true, false≢true}
 use Rattle.records.specs.declared.raw.Rectangle.{Rectangle}
 use Rattle.records.specs.Range.{is_record_number, is_coordinate}
@@ -45,7 +45,7 @@ few_successors_lem (Some Site) = omega arith
 
 -- at most two ways, each below the number of successors
 abbrev WaysAreGood : ℕ → Judgement → Type 0
-WaysAreGood successors j = (length j.ways ≤ 2) × All (λ way. way < successors) j.ways
+WaysAreGood successors j = (length j.ways ≤ 2) × AllByRecursion (λ way. way < successors) j.ways
 
 good_x : (q : Rectangle) (low high : ℤ) → WaysAreGood 3 (judge_xspan q low high)
 good_x q low high =
@@ -109,7 +109,7 @@ judges_well_lem =
       few_ways = λ q kind numbers shape h. (good_ways q (kind_numbered kind) numbers).0;
       ways_in_shape =
           λ q kind numbers shape h.
-          subst (λ o. All (λ way. way < successors_in o) (judge_as q (kind_numbered kind) numbers).ways) h.known (good_ways q (kind_numbered kind) numbers).1;
+          subst (λ o. AllByRecursion (λ way. way < successors_in o) (judge_as q (kind_numbered kind) numbers).ways) h.known (good_ways q (kind_numbered kind) numbers).1;
       small_emissions =
           λ q kind numbers shape number h e. subst IsSmall e (small_emission q (kind_numbered kind) numbers h.fit);
     }

@@ -1,6 +1,6 @@
 -- How many nodes a figure of sites has: each site's node is made once, so only spans add to the sites.
 use Rattle.std.proofs.Common.{◌≡◌, ℕ, zero, suc, ◌+◌, ◌*◌, ◌≤◌, max, Bool, true, false, cond, eqb, List, [], ◌∷◌, ◌++◌, length, Some, None, Option, refl, ap, ◌∙◌, ⊎_elim, arith}
-use Rattle.std.specs.List.{ContainsAt as Has, AllByRecursion as All}
+use Rattle.std.specs.List.{ContainsAt, AllByRecursion}
 use Rattle.std.proofs.lemmas.List.{length-append, length_push}
 use Rattle.std.proofs.ByRecursion.{all_has_itself}
 use Rattle.std.proofs.lemmas.Bool.{and_from, cond_both, cond-true, eq-eqb}
@@ -66,7 +66,7 @@ missing_more : (sites : List SiteRecord) (nodes : List Node) (last : Node) → m
 missing_more [] nodes last = omega arith
 missing_more (s ∷ sites) nodes last = omega (arith, absent_more 0 (site_node s) nodes last, missing_more sites nodes last)
 
-missing_less : (sites : List SiteRecord) (nodes : List Node) (s : SiteRecord) → Has sites s → place_of_alike (site_node s) nodes ≡ None
+missing_less : (sites : List SiteRecord) (nodes : List Node) (s : SiteRecord) → ContainsAt sites s → place_of_alike (site_node s) nodes ≡ None
     → suc (missing sites (nodes ++ site_node s ∷ [])) ≤ missing sites nodes
 missing_less [] nodes s has absent = absurd (omega (arith, has.1))
 missing_less (r ∷ sites) nodes s has absent =
@@ -91,7 +91,7 @@ module _ (held : List SiteRecord) where
       go (Some place) = omega arith
       go None = omega (arith, length_push nodes node, missing_more held nodes node)
 
-  site_adds : (nodes : List Node) (s : SiteRecord) → Has held s → reckoned (made nodes (site_rose s)).nodes ≤ reckoned nodes
+  site_adds : (nodes : List Node) (s : SiteRecord) → ContainsAt held s → reckoned (made nodes (site_rose s)).nodes ≤ reckoned nodes
   site_adds nodes s has = go (place_of_alike (site_node s) nodes) refl
     where
       go : (o : Option ℕ) → place_of_alike (site_node s) nodes ≡ o → reckoned (found_or_next nodes (site_node s) o).nodes ≤ reckoned nodes
@@ -109,17 +109,17 @@ module _ (held : List SiteRecord) where
   spans_x (one s) = 0
   spans_x (both l r) = suc (spans_x l + spans_x r + spans_y (tree_of (sorted by_y (leaves_of l ++ leaves_of r))))
 
-  y_adds : (t : Tree SiteRecord) (nodes : List Node) → All (Has held) (leaves_of t) → reckoned (made nodes (y_rose t)).nodes ≤ reckoned nodes + spans_y t
+  y_adds : (t : Tree SiteRecord) (nodes : List Node) → AllByRecursion (ContainsAt held) (leaves_of t) → reckoned (made nodes (y_rose t)).nodes ≤ reckoned nodes + spans_y t
   y_adds none nodes h = omega (arith, node_adds nodes (record { kind = 0; numbers = []; successors = [] }))
   y_adds (one s) nodes h = omega (arith, site_adds nodes s h.0)
   y_adds (both l r) nodes h =
       let after_left = (made nodes (y_rose l)).nodes in
       let after_right = (made after_left (y_rose r)).nodes in
-      let left = y_adds l nodes (all_left (Has held) (leaves_of l) (leaves_of r) h) in
-      let right = y_adds r after_left (all_right (Has held) (leaves_of l) (leaves_of r) h) in
+      let left = y_adds l nodes (all_left (ContainsAt held) (leaves_of l) (leaves_of r) h) in
+      let right = y_adds r after_left (all_right (ContainsAt held) (leaves_of l) (leaves_of r) h) in
       let last : reckoned (made nodes (y_rose (both l r))).nodes ≤ suc (reckoned after_right) = node_adds after_right _ in omega arith
 
-  x_adds : (t : Tree SiteRecord) (nodes : List Node) → All (Has held) (leaves_of t) → reckoned (made nodes (x_rose t)).nodes ≤ reckoned nodes + spans_x t
+  x_adds : (t : Tree SiteRecord) (nodes : List Node) → AllByRecursion (ContainsAt held) (leaves_of t) → reckoned (made nodes (x_rose t)).nodes ≤ reckoned nodes + spans_x t
   x_adds none nodes h = omega (arith, node_adds nodes (record { kind = 0; numbers = []; successors = [] }))
   x_adds (one s) nodes h = omega (arith, site_adds nodes s h.0)
   x_adds (both l r) nodes h =
@@ -127,9 +127,9 @@ module _ (held : List SiteRecord) where
       let after_left = (made nodes (x_rose l)).nodes in
       let after_right = (made after_left (x_rose r)).nodes in
       let after_across = (made after_right (y_tree sites)).nodes in
-      let left = x_adds l nodes (all_left (Has held) (leaves_of l) (leaves_of r) h) in
-      let right = x_adds r after_left (all_right (Has held) (leaves_of l) (leaves_of r) h) in
-      let across = y_adds (tree_of (sorted by_y sites)) after_right (all_sorted_leaves (Has held) by_y sites h) in
+      let left = x_adds l nodes (all_left (ContainsAt held) (leaves_of l) (leaves_of r) h) in
+      let right = x_adds r after_left (all_right (ContainsAt held) (leaves_of l) (leaves_of r) h) in
+      let across = y_adds (tree_of (sorted by_y sites)) after_right (all_sorted_leaves (ContainsAt held) by_y sites h) in
       let last : reckoned (made nodes (x_rose (both l r))).nodes ≤ suc (reckoned after_across) = node_adds after_across _ in omega arith
 
   y_spans : (t : Tree SiteRecord) → spans_y t + length (leaves_of t) + 1 ≤ 2 * leaf_count t
@@ -183,7 +183,7 @@ module _ (held : List SiteRecord) where
       let low = layers_rise (height t) 7 (leaf_count t) (height_tree_of 7 xs (omega (arith, length_sorted by_x held))) in
       omega (
         arith,
-        x_adds t [] (all_sorted_leaves (Has held) by_x held (all_has_itself held)),
+        x_adds t [] (all_sorted_leaves (ContainsAt held) by_x held (all_has_itself held)),
         missing_all held,
         x_spans t,
         leaf_count_tree_of xs,

@@ -1,6 +1,6 @@
 -- The numbers of the sites in a rectangle, in the order of the sites.
 use Rattle.std.proofs.Common.{◌≡◌, ℕ, Bool, false, List, [], ◌∷◌, ◌++◌, map, nat_abs, Some, None, Option, sym, refl, ap, ◌∙◌, ⊎_elim}
-use Rattle.std.specs.List.{AllByRecursion as All}
+use Rattle.std.specs.List.{AllByRecursion}
 use Rattle.std.specs.List.Sorted.{IsPermutation}
 use Rattle.std.proofs.lemmas.List.{append-nil}
 use Rattle.std.proofs.lemmas.List.Sorted.{IsPermutation-refl, IsPermutation-trans, IsPermutation-sym, IsPermutation-cons}
@@ -43,7 +43,7 @@ module _ (q : Rectangle) where
       (λ f. ap (λ o. ahead o (told sites)) (cond-false (is_inside q s) (Some (nat_abs s.number)) None f) ∙ told_is sites ∙ ap (map (λ r. nat_abs r.number)) (sym (cond-false (is_inside q s) (s ∷ inside q sites) (inside q sites) f)))
       (cases_Bool (is_inside q s))
 
-  pub told_none : (sites : List SiteRecord) → All (λ s. is_inside q s ≡ false) sites → told sites ≡ []
+  pub told_none : (sites : List SiteRecord) → AllByRecursion (λ s. is_inside q s ≡ false) sites → told sites ≡ []
   told_none [] h = refl
   told_none (s ∷ sites) h =
       ap (λ o. ahead o (told sites)) (cond-false (is_inside q s) (Some (nat_abs s.number)) None h.0) ∙ told_none sites h.1

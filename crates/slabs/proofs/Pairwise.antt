@@ -1,7 +1,7 @@
 -- A symmetric relation between any two elements of a list at different places is kept by every reordering.
 -- Assumes nothing.
 use Rattle.std.proofs.Common.{◌≡◌, ℕ, zero, suc, ◌<◌, ◌⊎◌, List, [], ◌∷◌, length, get_or, sym, refl, subst, subst₂, inl, inr, ⊎_elim, arith}
-use Rattle.std.specs.List.{swap, AllByRecursion as All}
+use Rattle.std.specs.List.{swap, AllByRecursion}
 use Rattle.std.specs.List.Sorted.{IsPermutation}
 use Rattle.std.proofs.lemmas.List.Edits.{Swapped, swapped_from_swap, length-swap}
 use Rattle.std.proofs.ByRecursion.{All-get_or, All-from_get_or}
@@ -22,7 +22,7 @@ comes_from_different a b i j m n p q different e =
 module _ {X : Type 0} (R : X → X → Type 0) where
   abbrev pub Pairwise : List X → Type 0
   Pairwise [] = Unit {0}
-  Pairwise (x ∷ xs) = All (R x) xs × Pairwise xs
+  Pairwise (x ∷ xs) = AllByRecursion (R x) xs × Pairwise xs
 
   abbrev ByPlaces : List X → Type 0
   ByPlaces xs = (i j : ℕ) (d : X) → i < length xs → j < length xs → (i ≡ j → ⊥) → R (get_or xs i d) (get_or xs j d)

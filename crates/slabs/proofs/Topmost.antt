@@ -1,7 +1,7 @@
 -- The topmost edge under a point names its zone, and among records that do not conflict it is the only one.
 -- Assumes nothing.
 use Rattle.std.proofs.Common.{◌≡◌, Bool, true, false, cond, ◌⊎◌, List, [], ◌∷◌, ℤ, Some, None, Option, sym, refl, ap, subst, inl, inr, ⊎_elim}
-use Rattle.std.specs.List.{ContainsAt as Has, AllByRecursion as All}
+use Rattle.std.specs.List.{ContainsAt, AllByRecursion}
 use Rattle.std.specs.List.Sorted.{IsPermutation}
 use Rattle.std.proofs.ByRecursion.{all-has, all_kept_by, has_shuffled, all_shuffled}
 use Rattle.std.proofs.lemmas.List.Sorted.{IsPermutation-sym}
@@ -19,11 +19,11 @@ use Rattle.slabs.proofs.Apart.{all_wide, same_or_apart}
 -- ---- the best of a list
 -- t is the best so far or an edge of the list, and lies under none of them
 pub record Best (x : ℤ) (best : EdgeRecord) (records : List EdgeRecord) (t : EdgeRecord) : Type 0 where
-  pub is_one : (best ≡ t) ⊎ Has records t
+  pub is_one : (best ≡ t) ⊎ ContainsAt records t
   pub not_under_best : lies_under x t best ≡ false
-  pub not_under : All (λ f. lies_under x t f ≡ false) records
+  pub not_under : AllByRecursion (λ f. lies_under x t f ≡ false) records
 
-pub highest_is_best : (x : ℤ) (best : EdgeRecord) (records : List EdgeRecord) → Wide best → All Wide records → (t : EdgeRecord) × (highest x (Some best) records ≡ Some t) × Best x best records t × Wide t
+pub highest_is_best : (x : ℤ) (best : EdgeRecord) (records : List EdgeRecord) → Wide best → AllByRecursion Wide records → (t : EdgeRecord) × (highest x (Some best) records ≡ Some t) × Best x best records t × Wide t
 highest_is_best x best [] w ws = (best, refl, record { is_one = inl refl; not_under_best = never_under_itself x best; not_under = tt }, w)
 highest_is_best x best (e ∷ records) w ws = by (lies_under x best e) refl (highest_is_best x e records ws.0 ws.1) (highest_is_best x best records w ws.1)
   where
@@ -35,7 +35,7 @@ highest_is_best x best (e ∷ records) w ws = by (lies_under x best e) refl (hig
       f.0,
       f.1,
       record {
-        is_one = inr (⊎_elim (λ p. subst (λ z. Has (e ∷ records) z) p (has_first e records)) (has_later e records f.0) b.is_one);
+        is_one = inr (⊎_elim (λ p. subst (λ z. ContainsAt (e ∷ records) z) p (has_first e records)) (has_later e records f.0) b.is_one);
         not_under_best = not_under_transitive x f.0 e best f.3 ws.0 w b.not_under_best (never_under_each_other x best e q);
         not_under = (b.not_under_best, b.not_under);
       },
@@ -55,20 +55,20 @@ highest_is_best x best (e ∷ records) w ws = by (lies_under x best e) refl (hig
 -- nothing of an empty list, or one that lies under none of the others
 abbrev pub Top : ℤ → List EdgeRecord → Option EdgeRecord → Type 0
 Top x records None = records ≡ []
-Top x records (Some t) = Has records t × All (λ f. lies_under x t f ≡ false) records
+Top x records (Some t) = ContainsAt records t × AllByRecursion (λ f. lies_under x t f ≡ false) records
 
-pub topmost_is_top : (x : ℤ) (records : List EdgeRecord) → All Wide records → Top x records (topmost x records)
+pub topmost_is_top : (x : ℤ) (records : List EdgeRecord) → AllByRecursion Wide records → Top x records (topmost x records)
 topmost_is_top x [] ws = refl
 topmost_is_top x (e ∷ records) ws =
     let found = highest_is_best x e records ws.0 ws.1 in
     let b = found.2 in
     subst (Top x (e ∷ records)) (sym found.1)
-    (⊎_elim (λ p. subst (λ z. Has (e ∷ records) z) p (has_first e records)) (has_later e records found.0) b.is_one, (b.not_under_best, b.not_under))
+    (⊎_elim (λ p. subst (λ z. ContainsAt (e ∷ records) z) p (has_first e records)) (has_later e records found.0) b.is_one, (b.not_under_best, b.not_under))
 
 -- ---- of the edges under a point
 top→named : (records : List EdgeRecord) (px py : ℤ) (o : Option EdgeRecord) → Top px (under px py records) o → Named records px py o
 top→named records px py None none = all_from_has (λ e. is_under px py e ≡ false) records
-    (λ e h. ⊎_elim (λ t. absurd (has_none e (subst (λ l. Has l e) none (has→kept (is_under px py) records e h t)))) (λ t. t) (cases_Bool (is_under px py e)))
+    (λ e h. ⊎_elim (λ t. absurd (has_none e (subst (λ l. ContainsAt l e) none (has→kept (is_under px py) records e h t)))) (λ t. t) (cases_Bool (is_under px py e)))
 top→named records px py (Some e) top = record {
   is_among = kept→has (is_under px py) records e top.0;
   under = kept→passes (is_under px py) records e top.0;

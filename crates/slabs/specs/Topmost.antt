@@ -1,6 +1,6 @@
 -- The zone of a point: that of the topmost edge under it, or open ground.
 use Rattle.std.specs.Prelude.{◌≡◌, Bool, true, false, cond, ◌&&◌, List, [], ◌∷◌, ℤ, pos, ◌<ℤ◌, Some, None, filter, Option}
-use Rattle.std.specs.List.{ContainsAt as Has, AllByRecursion as All}
+use Rattle.std.specs.List.{ContainsAt, AllByRecursion}
 use Rattle.std.specs.List.Sorted.{IsPermutation}
 use Rattle.records.specs.declared.raw.EdgeRecord.{EdgeRecord}
 use Rattle.geometry.specs.Fraction.{whole, at_most}
@@ -38,12 +38,12 @@ zone_at records px py = zone_above (topmost px (under px py records))
 -- ---- in the subject's words
 -- e names the zone of a point: it is a record, under the point, and lies under no other such record there.
 pub record NamesTheZone (records : List EdgeRecord) (px py : ℤ) (e : EdgeRecord) : Type 0 where
-  pub is_among : Has records e
+  pub is_among : ContainsAt records e
   pub under : is_under px py e ≡ true
-  pub none_higher : (f : EdgeRecord) → Has records f → is_under px py f ≡ true → lies_under px e f ≡ false
+  pub none_higher : (f : EdgeRecord) → ContainsAt records f → is_under px py f ≡ true → lies_under px e f ≡ false
 
 abbrev pub OpenGround : List EdgeRecord → ℤ → ℤ → Type 0
-OpenGround records px py = All (λ e. is_under px py e ≡ false) records
+OpenGround records px py = AllByRecursion (λ e. is_under px py e ≡ false) records
 
 -- The left end is west of the right end.
 abbrev pub Wide : EdgeRecord → Type 0
@@ -52,7 +52,7 @@ Wide e = e.x1 <ℤ e.x2
 -- Every record is wide, and no two at different places conflict.
 abbrev pub Apart : List EdgeRecord → Type 0
 Apart [] = Unit {0}
-Apart (e ∷ records) = Wide e × All (λ f. conflict e f ≡ false) records × Apart records
+Apart (e ∷ records) = Wide e × AllByRecursion (λ f. conflict e f ≡ false) records × Apart records
 
 -- ---- what holds
 -- An edge names the zone, or the point is on open ground.
@@ -63,7 +63,7 @@ Named records px py (Some e) = NamesTheZone records px py e
 -- The topmost edge under a point names its zone.
 abbrev pub TopmostNamesTheZone : Type 0
 TopmostNamesTheZone =
-    (records : List EdgeRecord) (px py : ℤ) → All Wide records → Named records px py (topmost px (under px py records))
+    (records : List EdgeRecord) (px py : ℤ) → AllByRecursion Wide records → Named records px py (topmost px (under px py records))
 
 -- No other edge does.
 abbrev pub NamedByOneEdge : Type 0

@@ -18,7 +18,7 @@ pub fn zone_is_named_once() -> u8
     ensures topmost { TopmostNamesTheZone }
     ensures once { NamedByOneEdge }
     ensures zone { ZoneIsThatNamed }
-    ensures ground { ZoneOfOpenGround }
+    ensures open_ground { ZoneOfOpenGround }
     ensures unordered { AnyOrderNamesIt }
     ensures worked { WorkedCases }
 {

@@ -1,7 +1,7 @@
 -- What every chart kind shows, of stones.
 use Rattle.std.specs.Prelude.{◌≡◌, ℕ, zero, suc, ◌<◌, ◌≤◌, Bool, true, false, not, List, [], ◌∷◌, length, ℤ, pos, negsuc, Some, None, Option, int_le, refl}
 use Rattle.std.proofs.Common.{ap, subst, arith}
-use Rattle.std.specs.List.{AllByRecursion as All}
+use Rattle.std.specs.List.{AllByRecursion}
 use Rattle.std.proofs.lemmas.Bool.{and_parts, leb-true, not-false}
 use Rattle.refusal.specs.declared.Refusal.TheVariants.{FieldOutOfRange, NumberHeld}
 use Rattle.node.specs.declared.shape.Shape.{Shape}
@@ -39,7 +39,7 @@ few_ways_lem q (suc zero) numbers shape h = omega arith
 few_ways_lem q (suc (suc zero)) numbers shape h = omega arith
 few_ways_lem q (suc (suc (suc kind))) numbers shape h = omega arith
 
-ways_in_shape_lem : (q : Bool) (kind : ℕ) (numbers : List ℤ) (shape : Shape) → Judgeable judging shape kind numbers → All (λ way. way < shape.successors) (judge_stone q kind numbers).ways
+ways_in_shape_lem : (q : Bool) (kind : ℕ) (numbers : List ℤ) (shape : Shape) → Judgeable judging shape kind numbers → AllByRecursion (λ way. way < shape.successors) (judge_stone q kind numbers).ways
 ways_in_shape_lem q zero numbers shape h = tt
 ways_in_shape_lem q (suc zero) numbers shape h = tt
 ways_in_shape_lem q (suc (suc zero)) numbers shape h =
@@ -73,7 +73,7 @@ adds_numbers : (stones : List Stone) (stone : Stone) → add_refusal stones ston
 adds_numbers stones stone free = not-false (is_record_number stone.number) (first_passed (not (is_record_number stone.number)) FieldOutOfRange _ free)
 
 -- stones of record numbers make a rose that fits
-pub rose_fits : (stones : List Stone) → All (λ stone. is_record_number stone.number ≡ true) stones → FitsWhole judging (rose_of stones)
+pub rose_fits : (stones : List Stone) → AllByRecursion (λ stone. is_record_number stone.number ≡ true) stones → FitsWhole judging (rose_of stones)
 rose_fits [] h = (record { shape = shaped 0 0; judgeable = record { known = refl; counted = refl; fit = refl }; joined = refl }, tt)
 rose_fits (stone ∷ stones) h = (
   record { shape = shaped 0 2; judgeable = record { known = refl; counted = refl; fit = refl }; joined = refl },
@@ -94,10 +94,10 @@ stone_fits (Some number) = rose_fits (listed (Some number)) (number_fits number,
 pub chart_fits : (chart : StoneChart) → FitsWhole judging (rose_of (held chart))
 chart_fits chart = stone_fits chart.stone
 
-held_numbers : (stones : List Stone) → CanBeHeld drawing stones → All (λ stone. is_record_number stone.number ≡ true) stones
+held_numbers : (stones : List Stone) → CanBeHeld drawing stones → AllByRecursion (λ stone. is_record_number stone.number ≡ true) stones
 held_numbers stones h = holdable_all number_of add_refusal (λ stone. is_record_number stone.number ≡ true) adds_numbers stones h
 
-answered : (stones : List Stone) (q : Bool) → All (λ stone. is_record_number stone.number ≡ true) stones → Answers judging (drawing.figure stones) q (answer_of stones)
+answered : (stones : List Stone) (q : Bool) → AllByRecursion (λ stone. is_record_number stone.number ≡ true) stones → Answers judging (drawing.figure stones) q (answer_of stones)
 answered [] q h = answers_by_rose judging q (rose_of []) [] judges_well_lem (rose_fits [] h) (omega arith) (omega arith) refl
 answered (stone ∷ stones) q h = answers_by_rose judging q (rose_of (stone ∷ stones)) (answer_of (stone ∷ stones)) judges_well_lem (rose_fits (stone ∷ stones) h) (omega arith) (omega arith) refl
 

@@ -1,7 +1,7 @@
 -- How many nodes the figure of held edges has at most.
 -- Assumes nothing.
 use Rattle.std.proofs.Common.{◌≡◌, suc, ◌+◌, ◌≤◌, List, [], ◌∷◌, map, length, ℤ, pos, Some, None, Ok, Err, Option, refl, ap, arith}
-use Rattle.std.specs.List.{ContainsAt as Has, AllByRecursion as All}
+use Rattle.std.specs.List.{ContainsAt, AllByRecursion}
 use Rattle.std.proofs.ByRecursion.{All-weaker}
 use Rattle.std.proofs.lemmas.List.{length-map}
 use Rattle.std.proofs.lemmas.Bool.{le-leb, cond-true}
@@ -26,16 +26,16 @@ use Rattle.zone_figure.proofs.Sharing.{weight_run, nodes_at_most}
 abbrev zones_of : List EdgeRecord → List ℤ
 zones_of held = pos 0 ∷ map (λ e. e.zone) held
 
-zones_above : (held : List EdgeRecord) → All (λ e. Has (map (λ f. f.zone) held) e.zone) held
+zones_above : (held : List EdgeRecord) → AllByRecursion (λ e. ContainsAt (map (λ f. f.zone) held) e.zone) held
 zones_above [] = tt
 zones_above (e ∷ held) = (
   has_first e.zone (map (λ f. f.zone) held),
-  All-weaker (λ f. Has (map (λ g. g.zone) held) f.zone) (λ f. Has (e.zone ∷ map (λ g. g.zone) held) f.zone) (λ f h. has_later e.zone (map (λ g. g.zone) held) f.zone h) held (zones_above held),
+  All-weaker (λ f. ContainsAt (map (λ g. g.zone) held) f.zone) (λ f. ContainsAt (e.zone ∷ map (λ g. g.zone) held) f.zone) (λ f h. has_later e.zone (map (λ g. g.zone) held) f.zone h) held (zones_above held),
 )
 
-zones_known : (held : List EdgeRecord) (west : Option ℤ) → All (λ e. Has (zones_of held) e.zone) (slab_edges held west)
-zones_known held west = all_slab (λ e. Has (zones_of held) e.zone) held west
-    (All-weaker (λ e. Has (map (λ f. f.zone) held) e.zone) (λ e. Has (zones_of held) e.zone) (λ e h. has_later (pos 0) (map (λ f. f.zone) held) e.zone h) held (zones_above held))
+zones_known : (held : List EdgeRecord) (west : Option ℤ) → AllByRecursion (λ e. ContainsAt (zones_of held) e.zone) (slab_edges held west)
+zones_known held west = all_slab (λ e. ContainsAt (zones_of held) e.zone) held west
+    (All-weaker (λ e. ContainsAt (map (λ f. f.zone) held) e.zone) (λ e. ContainsAt (zones_of held) e.zone) (λ e h. has_later (pos 0) (map (λ f. f.zone) held) e.zone h) held (zones_above held))
 
 -- a fork for each bound, and for each edge of each slab
 forks : (held : List EdgeRecord) (xs : List ℤ) → sum_of (λ x. suc (length (slab_edges held (Some x)))) xs ≡ length xs + sum_of (crowd held) xs
@@ -56,7 +56,7 @@ at_most held =
       run,
       ap (sum_of (λ x. suc (length (slab_edges held (Some x))))) same,
       forks held bounds,
-      crowds_in_all held bounds (bounds_rise_strictly held) (all_bounds (Has (ends_of held)) held (ends_in_ends held)),
+      crowds_in_all held bounds (bounds_rise_strictly held) (all_bounds (ContainsAt (ends_of held)) held (ends_in_ends held)),
     ))
 
 pub zone_figures_are_small_lem : ZoneFiguresAreSmall

@@ -4,7 +4,7 @@
 use Rattle.std.proofs.Common.{◌≡◌, ℕ, zero, suc, ◌+◌, ◌≤◌, Bool, true, false, cond, not, ◌||◌, List, [], ◌∷◌, length, ℤ, ◌<ℤ◌, filter, sym, refl, ap, ◌∙◌, subst, ⊎_elim, arith}
 use lib.Signed.{lt_z, le_z}
 use borrow.Author.Differences.{ints}
-use Rattle.std.specs.List.{ContainsAt as Has, AllByRecursion as All}
+use Rattle.std.specs.List.{ContainsAt, AllByRecursion}
 use Rattle.std.proofs.ByRecursion.{All-weaker, all_kept_by}
 use Rattle.std.proofs.lemmas.Bool.{and_parts, and_from, or_parts, or_cases, or_left, or_right, cond_both, cond-true, cond-false, true≢false, both_ways}
 use Rattle.algebra.proofs.Order.{int_le→≤ℤ, int_lt→<ℤ, ≤ℤ→int_le, ≡→≤ℤ, ≤ℤ-antisym}
@@ -36,7 +36,7 @@ same→equal x y h =
 equal→same : (x y : ℤ) → x ≡ y → same_number x y ≡ true
 equal→same x y e = and_from (le_z x y) (le_z y x) (≤ℤ→int_le {a = x} {b = y} (≡→≤ℤ e)) (≤ℤ→int_le {a = y} {b = x} (≡→≤ℤ (sym e)))
 
-has→among : (xs : List ℤ) (x : ℤ) → Has xs x → among x xs ≡ true
+has→among : (xs : List ℤ) (x : ℤ) → ContainsAt xs x → among x xs ≡ true
 has→among [] x h = absurd (has_none x h)
 has→among (y ∷ ys) x h =
     ⊎_elim (λ e. or_left (same_number x y) (among x ys) (equal→same x y (sym e))) (λ k. or_right (same_number x y) (among x ys) (has→among ys x k)) (has_cases y ys x h)
@@ -46,7 +46,7 @@ module _ (c : ℤ → ℕ) where
   other : ℤ → ℤ → Bool
   other x b = not (same_number b x)
 
-  kept_all : (x : ℤ) (bs : List ℤ) → All (λ b. x <ℤ b) bs → filter (other x) bs ≡ bs
+  kept_all : (x : ℤ) (bs : List ℤ) → AllByRecursion (λ b. x <ℤ b) bs → filter (other x) bs ≡ bs
   unfolding other
   kept_all x [] h = refl
   kept_all x (b ∷ bs) h =
@@ -68,7 +68,7 @@ module _ (c : ℤ → ℕ) where
       by true e later =
           let q = same→equal b x e in
           subst (λ l. c b + sum_of c bs ≤ c x + sum_of c l) (sym (cond-false (not (same_number b x)) (b ∷ filter (other x) bs) (filter (other x) bs) (ap not e)))
-          (omega (arith, ap c q, ap (sum_of c) (kept_all x bs (subst (λ z. All (λ y. z <ℤ y) bs) q h.0))))
+          (omega (arith, ap c q, ap (sum_of c) (kept_all x bs (subst (λ z. AllByRecursion (λ y. z <ℤ y) bs) q h.0))))
       by false e later =
           subst (λ l. c b + sum_of c bs ≤ c x + sum_of c l) (sym (cond-true (not (same_number b x)) (b ∷ filter (other x) bs) (filter (other x) bs) (ap not e)))
           (omega arith)
@@ -79,15 +79,15 @@ module _ (c : ℤ → ℕ) where
       let later = rising_kept test bs h.1 in
       cond_both (test b) (b ∷ filter test bs) (filter test bs) (Pairwise ◌<ℤ◌) (λ _. (all_kept_by test (λ y. b <ℤ y) bs h.0, later)) (λ _. later)
 
-  among_later : (x : ℤ) (xs bs : List ℤ) → All (λ b. among b (x ∷ xs) ≡ true) bs → All (λ b. among b xs ≡ true) (filter (other x) bs)
+  among_later : (x : ℤ) (xs bs : List ℤ) → AllByRecursion (λ b. among b (x ∷ xs) ≡ true) bs → AllByRecursion (λ b. among b xs ≡ true) (filter (other x) bs)
   unfolding other
   among_later x xs [] h = tt
   among_later x xs (b ∷ bs) h =
       let later = among_later x xs bs h.1 in
-      cond_both (other x b) (b ∷ filter (other x) bs) (filter (other x) bs) (All (λ y. among y xs ≡ true))
+      cond_both (other x b) (b ∷ filter (other x) bs) (filter (other x) bs) (AllByRecursion (λ y. among y xs ≡ true))
       (λ t. (⊎_elim (λ e. absurd (true≢false (sym t ∙ ap not e))) (λ k. k) (or_cases (same_number b x) (among b xs) h.0), later)) (λ _. later)
 
-  pub sum_once_lem : (xs bs : List ℤ) → Pairwise ◌<ℤ◌ bs → All (λ b. among b xs ≡ true) bs → sum_of c bs ≤ sum_once c xs
+  pub sum_once_lem : (xs bs : List ℤ) → Pairwise ◌<ℤ◌ bs → AllByRecursion (λ b. among b xs ≡ true) bs → sum_of c bs ≤ sum_once c xs
   sum_once_lem [] [] r h = omega arith
   sum_once_lem [] (b ∷ bs) r h = absurd (true≢false (sym h.0))
   sum_once_lem (x ∷ xs) bs r h =
@@ -96,7 +96,7 @@ module _ (c : ℤ → ℕ) where
       already : among x xs ≡ true → (b : ℤ) → among b (x ∷ xs) ≡ true → among b xs ≡ true
       already t b k = ⊎_elim (λ e. subst (λ z. among z xs ≡ true) (sym (same→equal b x e)) t) (λ l. l) (or_cases (same_number b x) (among b xs) k)
 
-      by : (t : Bool) → among x xs ≡ t → (All (λ b. among b xs ≡ true) bs → sum_of c bs ≤ sum_once c xs) → sum_of c (filter (other x) bs) ≤ sum_once c xs → sum_of c bs ≤ cond t 0 (c x) + sum_once c xs
+      by : (t : Bool) → among x xs ≡ t → (AllByRecursion (λ b. among b xs ≡ true) bs → sum_of c bs ≤ sum_once c xs) → sum_of c (filter (other x) bs) ≤ sum_once c xs → sum_of c bs ≤ cond t 0 (c x) + sum_once c xs
       by true e all without =
           let k = all (All-weaker (λ b. among b (x ∷ xs) ≡ true) (λ b. among b xs ≡ true) (already e) bs h) in omega arith
       by false e all without = omega (arith, sum_without x bs r)
@@ -217,6 +217,6 @@ crowded (e ∷ held) =
     )
 
 -- the edges that cover each of some strictly rising ends, in all
-pub crowds_in_all : (held : List EdgeRecord) (bounds : List ℤ) → Pairwise ◌<ℤ◌ bounds → All (Has (ends_of held)) bounds → sum_of (crowd held) bounds ≤ square (length held)
+pub crowds_in_all : (held : List EdgeRecord) (bounds : List ℤ) → Pairwise ◌<ℤ◌ bounds → AllByRecursion (ContainsAt (ends_of held)) bounds → sum_of (crowd held) bounds ≤ square (length held)
 crowds_in_all held bounds r h =
-    omega (arith, crowded held, sum_once_lem (crowd held) (ends_of held) bounds r (All-weaker (Has (ends_of held)) (λ b. among b (ends_of held) ≡ true) (λ b k. has→among (ends_of held) b k) bounds h))
+    omega (arith, crowded held, sum_once_lem (crowd held) (ends_of held) bounds r (All-weaker (ContainsAt (ends_of held)) (λ b. among b (ends_of held) ≡ true) (λ b k. has→among (ends_of held) b k) bounds h))

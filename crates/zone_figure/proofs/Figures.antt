@@ -1,7 +1,7 @@
 -- The figure of held edges is fit and low, and a visit of it answers; so the zone chart is lawful.
 -- Assumes nothing.
 use Rattle.std.proofs.Common.{◌≡◌, suc, ◌≤◌, true, false, not, List, [], ◌∷◌, length, ℤ, nat_abs, None, Option, sym, refl, ap, ◌∙◌, subst, arith}
-use Rattle.std.specs.List.{AllByRecursion as All}
+use Rattle.std.specs.List.{AllByRecursion}
 use Rattle.std.proofs.ByRecursion.{All-weaker}
 use Rattle.refusal.specs.declared.Refusal.TheVariants.{FieldOutOfRange, NumberHeld}
 use Rattle.records.specs.declared.raw.EdgeRecord.{EdgeRecord}
@@ -35,7 +35,7 @@ use Rattle.zone_figure.proofs.Fitness.{Parts, parts_of, run_tree_fits}
 use Rattle.zone_figure.proofs.JudgesWell.{judges_well_lem}
 use Rattle.zone_figure.proofs.Slabs.{slab_fits, slab_levels, zone_found, slab_visited, zone_in_slab}
 
-all_parts : (held : List EdgeRecord) → Orderly held → All Parts held
+all_parts : (held : List EdgeRecord) → Orderly held → AllByRecursion Parts held
 all_parts held o = All-weaker (λ e. is_edge e ≡ true) Parts parts_of held o.fields
 
 bounds_depth : (held : List EdgeRecord) → Orderly held → depth (bush_of bounds_before (bounds_of held)) ≤ 8
@@ -47,7 +47,7 @@ pub zone_trees_are_fit : ZoneTreesAreFit
 zone_trees_are_fit held can =
     let parts = all_parts held (orderly held can) in
     run_tree_fits held (slab_fits held parts) (bush_of bounds_before (bounds_of held)) None
-    (subst (All (λ x. is_coordinate x ≡ true)) (sym (elements_of bounds_before bounds_halve (bounds_of held)))
+    (subst (AllByRecursion (λ x. is_coordinate x ≡ true)) (sym (elements_of bounds_before bounds_halve (bounds_of held)))
     (all_bounds (λ x. is_coordinate x ≡ true) held (All-weaker Parts (λ e. (is_coordinate e.x1 ≡ true) × (is_coordinate e.x2 ≡ true)) (λ e part. (part.x1, part.x2)) held parts)))
 
 pub zone_trees_are_low : ZoneTreesAreLow
@@ -66,7 +66,7 @@ slab_is_last p held =
     found_is_last (is_east_of p) west_of (bush_of bounds_before bounds) None (subst (Pairwise (Fails (is_east_of p) west_of)) (sym same) (east_fails p bounds (bounds_rise held)))
     ∙ ap (over_last (is_east_of p) west_of None) same
 
-slab_covers_alike : (p : Point) (held : List EdgeRecord) → All (CoveredAlike p.x (slab_of p held)) held
+slab_covers_alike : (p : Point) (held : List EdgeRecord) → AllByRecursion (CoveredAlike p.x (slab_of p held)) held
 slab_covers_alike p held =
     let bounds = bounds_of held in
     let agrees : Agrees p.x (slab_of p held) bounds = subst (λ o. Agrees p.x o bounds) (sym (slab_is_last p held)) (west_agrees p bounds (bounds_rise held)) in

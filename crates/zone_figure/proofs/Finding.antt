@@ -1,7 +1,7 @@
 -- Going down a bush by a test finds the last element that passes it, if no element passes it after one that does not.
 -- Assumes nothing.
 use Rattle.std.proofs.Common.{◌≡◌, Bool, true, false, cond, List, [], ◌∷◌, ◌++◌, sym, refl, ap, ◌∙◌}
-use Rattle.std.specs.List.{AllByRecursion as All}
+use Rattle.std.specs.List.{AllByRecursion}
 use Rattle.std.proofs.lemmas.Bool.{cond-false}
 use Rattle.slabs.proofs.Pairwise.{Pairwise}
 use Rattle.zone_figure.specs.Halving.{Bush, bare, fork}
@@ -11,7 +11,7 @@ pub pairwise_front : {X : Type 0} (R : X → X → Type 0) (xs ys : List X) → 
 pairwise_front R [] ys h = tt
 pairwise_front R (x ∷ xs) ys h = (all_front xs h.0, pairwise_front R xs ys h.1)
   where
-    all_front : (zs : List _) → All (R x) (zs ++ ys) → All (R x) zs
+    all_front : (zs : List _) → AllByRecursion (R x) (zs ++ ys) → AllByRecursion (R x) zs
     all_front [] k = tt
     all_front (z ∷ zs) k = (k.0, all_front zs k.1)
 
@@ -33,7 +33,7 @@ module _ {X G : Type 0} (test : X → Bool) (over : X → G) where
   over_last_append ground [] ys = refl
   over_last_append ground (x ∷ xs) ys = over_last_append (cond (test x) (over x) ground) xs ys
 
-  pub over_last_none : (ground : G) (xs : List X) → All (λ x. test x ≡ false) xs → over_last ground xs ≡ ground
+  pub over_last_none : (ground : G) (xs : List X) → AllByRecursion (λ x. test x ≡ false) xs → over_last ground xs ≡ ground
   over_last_none ground [] h = refl
   over_last_none ground (x ∷ xs) h =
       ap (λ g. over_last g xs) (cond-false (test x) (over x) ground h.0) ∙ over_last_none ground xs h.1
@@ -42,7 +42,7 @@ module _ {X G : Type 0} (test : X → Bool) (over : X → G) where
   abbrev pub Fails : X → X → Type 0
   Fails x y = test x ≡ false → test y ≡ false
 
-  none_after : (x : X) (xs : List X) → All (Fails x) xs → test x ≡ false → All (λ y. test y ≡ false) xs
+  none_after : (x : X) (xs : List X) → AllByRecursion (Fails x) xs → test x ≡ false → AllByRecursion (λ y. test y ≡ false) xs
   none_after x [] h f = tt
   none_after x (y ∷ ys) h f = (h.0 f, none_after x ys h.1 f)
 

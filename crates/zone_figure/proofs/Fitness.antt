@@ -2,7 +2,7 @@
 -- Assumes nothing.
 use Rattle.std.proofs.Common.{◌≡◌, true, List, [], ◌∷◌, ◌++◌, ℤ, Some, Option, refl}
 use lib.Signed.{lt_z}
-use Rattle.std.specs.List.{AllByRecursion as All}
+use Rattle.std.specs.List.{AllByRecursion}
 use Rattle.std.proofs.lemmas.Bool.{and_parts, and_from}
 use Rattle.records.specs.declared.raw.EdgeRecord.{EdgeRecord}
 use Rattle.records.specs.Range.{is_coordinate, is_zone}
@@ -35,11 +35,11 @@ parts_of e h =
     let x1 = and_parts _ (is_coordinate e.x1) y1.0 in
     record { x1 = x1.1; y1 = y1.1; x2 = x2.1; y2 = y2.1; zone = zone.1; wide = wide.1 }
 
-pub all_front : {X : Type 0} (P : X → Type 0) (xs ys : List X) → All P (xs ++ ys) → All P xs
+pub all_front : {X : Type 0} (P : X → Type 0) (xs ys : List X) → AllByRecursion P (xs ++ ys) → AllByRecursion P xs
 all_front P [] ys h = tt
 all_front P (x ∷ xs) ys h = (h.0, all_front P xs ys h.1)
 
-pub all_back : {X : Type 0} (P : X → Type 0) (xs ys : List X) → All P (xs ++ ys) → All P ys
+pub all_back : {X : Type 0} (P : X → Type 0) (xs ys : List X) → AllByRecursion P (xs ++ ys) → AllByRecursion P ys
 all_back P [] ys h = h
 all_back P (x ∷ xs) ys h = all_back P xs ys h.1
 
@@ -47,7 +47,7 @@ edge_fits : (e : EdgeRecord) → Parts e → zone_judging.is_fit 2 (e.x1 ∷ e.y
 edge_fits e parts =
     and_from _ (lt_z e.x1 e.x2) (and_from _ (is_coordinate e.y2) (and_from _ (is_coordinate e.x2) (and_from (is_coordinate e.x1) (is_coordinate e.y1) parts.x1 parts.y1) parts.x2) parts.y2) parts.wide
 
-pub edge_tree_fits : (bush : Bush EdgeRecord) (ground : ℤ) → is_zone ground ≡ true → All Parts (elements bush) → FitsWhole zone_judging (edge_tree ground bush)
+pub edge_tree_fits : (bush : Bush EdgeRecord) (ground : ℤ) → is_zone ground ≡ true → AllByRecursion Parts (elements bush) → FitsWhole zone_judging (edge_tree ground bush)
 edge_tree_fits bare ground z h =
     (record { shape = shape_of Zone; judgeable = record { known = refl; counted = refl; fit = z }; joined = refl }, tt)
 edge_tree_fits (fork low e high) ground z h =
@@ -59,7 +59,7 @@ edge_tree_fits (fork low e high) ground z h =
     )
 
 pub run_tree_fits : (held : List EdgeRecord) → ((west : Option ℤ) → FitsWhole zone_judging (slab_tree held west))
-    → (bush : Bush ℤ) (west : Option ℤ) → All (λ x. is_coordinate x ≡ true) (elements bush) → FitsWhole zone_judging (run_tree held west bush)
+    → (bush : Bush ℤ) (west : Option ℤ) → AllByRecursion (λ x. is_coordinate x ≡ true) (elements bush) → FitsWhole zone_judging (run_tree held west bush)
 run_tree_fits held slabs bare west h = slabs west
 run_tree_fits held slabs (fork low x high) west h =
     let back = all_back (λ z. is_coordinate z ≡ true) (elements low) (x ∷ elements high) h in

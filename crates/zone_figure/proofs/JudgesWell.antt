@@ -3,7 +3,7 @@
 use Rattle.std.proofs.Common.{◌≡◌, ℕ, ◌<◌, ◌≤◌, Bool, true, false, eqb, List, [], ◌∷◌, length, get_or, ℤ, pos, negsuc, nat_abs, ◌≤ℤ◌, Some, None, Option, sym, ap, subst, arith}
 use lib.Signed.{lt_z, le_z}
 use borrow.Author.Differences.{ints}
-use Rattle.std.specs.List.{AllByRecursion as All}
+use Rattle.std.specs.List.{AllByRecursion}
 use Rattle.std.proofs.lemmas.Bool.{and_parts, cond_both, true≢false}
 use Rattle.algebra.proofs.Order.{int_le→≤ℤ}
 use Rattle.records.specs.declared.raw.Point.{Point}
@@ -70,7 +70,7 @@ abbrev Emits : Shape → Judgement → Type 0
 Emits shape judgement = (number : ℕ) → judgement.emits ≡ Some number → number < 65536
 
 abbrev InShape : Shape → Judgement → Type 0
-InShape shape judgement = All (λ way. way < shape.successors) judgement.ways
+InShape shape judgement = AllByRecursion (λ way. way < shape.successors) judgement.ways
 
 abbrev Few : Shape → Judgement → Type 0
 Few shape judgement = length judgement.ways ≤ 2
@@ -81,8 +81,8 @@ judges_well_lem = record {
   few_successors = λ kind shape k. each_shape (λ t. t.successors ≤ 3) (omega arith) (omega arith) (omega arith) (kind_numbered kind) shape k;
   few_ways = λ p kind numbers shape j. each_judgement Few p numbers (omega arith) (omega arith) (λ f. omega arith) (kind_numbered kind) shape j.known j.fit;
   ways_in_shape = λ p kind numbers shape j. each_judgement InShape p numbers
-      (cond_both (lt_z p.x (get_or numbers 0 (pos 0))) 0 1 (λ way. All (λ w. w < 2) (way ∷ [])) (λ _. (omega arith, tt)) (λ _. (omega arith, tt)))
-      (cond_both (is_above p (get_or numbers 0 (pos 0)) (get_or numbers 1 (pos 0)) (get_or numbers 2 (pos 0)) (get_or numbers 3 (pos 0))) 1 0 (λ way. All (λ w. w < 2) (way ∷ [])) (λ _. (omega arith, tt)) (λ _. (omega arith, tt)))
+      (cond_both (lt_z p.x (get_or numbers 0 (pos 0))) 0 1 (λ way. AllByRecursion (λ w. w < 2) (way ∷ [])) (λ _. (omega arith, tt)) (λ _. (omega arith, tt)))
+      (cond_both (is_above p (get_or numbers 0 (pos 0)) (get_or numbers 1 (pos 0)) (get_or numbers 2 (pos 0)) (get_or numbers 3 (pos 0))) 1 0 (λ way. AllByRecursion (λ w. w < 2) (way ∷ [])) (λ _. (omega arith, tt)) (λ _. (omega arith, tt)))
       (λ f. tt) (kind_numbered kind) shape j.known j.fit;
   small_emissions = λ p kind numbers shape number j. each_judgement Emits p numbers
       (λ n e. absurd (none_is_not_some e)) (λ n e. absurd (none_is_not_some e))

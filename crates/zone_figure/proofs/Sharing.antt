@@ -2,7 +2,7 @@
 -- Assumes nothing.
 use Rattle.std.proofs.Common.{◌≡◌, ℕ, suc, ◌+◌, ◌≤◌, Bool, true, false, cond, List, [], ◌∷◌, ◌++◌, length, ℤ, pos, Some, None, Option, sym, refl, ap, subst, ⊎_elim, arith}
 use lib.Signed.{le_z}
-use Rattle.std.specs.List.{ContainsAt as Has, AllByRecursion as All}
+use Rattle.std.specs.List.{ContainsAt, AllByRecursion}
 use Rattle.std.proofs.lemmas.List.{length-append}
 use Rattle.std.proofs.lemmas.Bool.{and_from, cond-true}
 use Rattle.algebra.proofs.Order.{≤ℤ→int_le, ≡→≤ℤ}
@@ -61,7 +61,7 @@ missing_more : (last : Node) (nodes : List Node) (zones : List ℤ) → sum_of (
 missing_more last nodes [] = omega arith
 missing_more last nodes (zone ∷ zones) = omega (arith, absent_more 0 (zone_node zone) last nodes, missing_more last nodes zones)
 
-one_fewer : (zone : ℤ) (nodes : List Node) (zones : List ℤ) → Has zones zone → missing nodes zone ≡ 1 → suc (sum_of (missing (nodes ++ zone_node zone ∷ [])) zones) ≤ sum_of (missing nodes) zones
+one_fewer : (zone : ℤ) (nodes : List Node) (zones : List ℤ) → ContainsAt zones zone → missing nodes zone ≡ 1 → suc (sum_of (missing (nodes ++ zone_node zone ∷ [])) zones) ≤ sum_of (missing nodes) zones
 one_fewer zone nodes [] h k = absurd (has_none zone h)
 one_fewer zone nodes (z ∷ zones) h k =
     ⊎_elim
@@ -89,7 +89,7 @@ module _ (zones : List ℤ) where
       by (Some place) = omega arith
 
   -- a zone's node weighs nothing
-  weight_zone : (nodes : List Node) (zone : ℤ) → Has zones zone → weight (made_node nodes (zone_node zone)).nodes ≤ weight nodes
+  weight_zone : (nodes : List Node) (zone : ℤ) → ContainsAt zones zone → weight (made_node nodes (zone_node zone)).nodes ≤ weight nodes
   weight_zone nodes zone h = by (place_of_alike (zone_node zone) nodes) refl
     where
       by : (o : Option ℕ) → place_of_alike (zone_node zone) nodes ≡ o → weight (found_or_next nodes (zone_node zone) o).nodes ≤ weight nodes
@@ -100,27 +100,27 @@ module _ (zones : List ℤ) where
       → weight (made nodes (two kind numbers a b)).nodes ≤ suc (weight (made (made nodes a).nodes b).nodes)
   weight_fork nodes kind numbers a b = weight_node (made (made nodes a).nodes b).nodes (record { kind = kind; numbers = numbers; successors = (made nodes a).place ∷ (made (made nodes a).nodes b).place ∷ [] })
 
-  weight_edges : (bush : Bush EdgeRecord) (ground : ℤ) (nodes : List Node) → Has zones ground → All (λ e. Has zones e.zone) (elements bush)
+  weight_edges : (bush : Bush EdgeRecord) (ground : ℤ) (nodes : List Node) → ContainsAt zones ground → AllByRecursion (λ e. ContainsAt zones e.zone) (elements bush)
       → weight (made nodes (edge_tree ground bush)).nodes ≤ weight nodes + length (elements bush)
   weight_edges bare ground nodes g h = omega (arith, weight_zone nodes ground g)
   weight_edges (fork low e high) ground nodes g h =
-      let back = all_back (λ f. Has zones f.zone) (elements low) (e ∷ elements high) h in
+      let back = all_back (λ f. ContainsAt zones f.zone) (elements low) (e ∷ elements high) h in
       let below = (made nodes (edge_tree ground low)).nodes in
       omega (
         arith,
         weight_fork nodes 2 (e.x1 ∷ e.y1 ∷ e.x2 ∷ e.y2 ∷ []) (edge_tree ground low) (edge_tree e.zone high),
-        weight_edges low ground nodes g (all_front (λ f. Has zones f.zone) (elements low) (e ∷ elements high) h),
+        weight_edges low ground nodes g (all_front (λ f. ContainsAt zones f.zone) (elements low) (e ∷ elements high) h),
         weight_edges high e.zone below back.0 back.1,
         length-append (elements low) (e ∷ elements high),
       )
 
-  module _ (held : List EdgeRecord) (ground : Has zones (pos 0)) (all : (west : Option ℤ) → All (λ e. Has zones e.zone) (slab_edges held west)) where
+  module _ (held : List EdgeRecord) (ground : ContainsAt zones (pos 0)) (all : (west : Option ℤ) → AllByRecursion (λ e. ContainsAt zones e.zone) (slab_edges held west)) where
     weight_slab : (west : Option ℤ) (nodes : List Node) → weight (made nodes (slab_tree held west)).nodes ≤ weight nodes + length (slab_edges held west)
     weight_slab west nodes =
         let same = elements_of edges_before edges_halve (slab_edges held west) in
         omega (
           arith,
-          weight_edges (bush_of edges_before (slab_edges held west)) (pos 0) nodes ground (subst (All (λ e. Has zones e.zone)) (sym same) (all west)),
+          weight_edges (bush_of edges_before (slab_edges held west)) (pos 0) nodes ground (subst (AllByRecursion (λ e. ContainsAt zones e.zone)) (sym same) (all west)),
           ap length same,
         )
 

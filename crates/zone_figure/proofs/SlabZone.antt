@@ -3,7 +3,7 @@
 use Rattle.std.proofs.Common.{◌≡◌, Bool, true, false, cond, ◌&&◌, List, [], ◌∷◌, ℤ, pos, ◌-ℤ◌, ◌*ℤ◌, ◌≤ℤ◌, ◌<ℤ◌, Some, None, Option, sym, refl, ap, ◌∙◌, subst, arith}
 use lib.Signed.{le_z}
 use borrow.Author.Differences.{ints}
-use Rattle.std.specs.List.{AllByRecursion as All}
+use Rattle.std.specs.List.{AllByRecursion}
 use Rattle.std.proofs.lemmas.Bool.{both_ways, cond-true, cond-false}
 use Rattle.algebra.specs.Expressions.{unknown, number, ◌⊕◌, ◌⊖◌, ◌⊗◌}
 use Rattle.algebra.proofs.Identity.{ring}
@@ -48,7 +48,7 @@ over_is_under p e c =
 -- the best so far lies under all that follow
 abbrev BestUnder : ℤ → Option EdgeRecord → List EdgeRecord → Type 0
 BestUnder x None edges = Unit {0}
-BestUnder x (Some best) edges = All (Under x best) edges
+BestUnder x (Some best) edges = AllByRecursion (Under x best) edges
 
 module _ (p : Point) where
   higher_is : (best : Option EdgeRecord) (e : EdgeRecord) (edges : List EdgeRecord) → BestUnder p.x best (e ∷ edges) → higher p.x best e ≡ Some e
@@ -83,7 +83,7 @@ module _ (p : Point) where
   zone_by_turns edges h c = by_turns None edges tt h c
 
   -- no edge is under the point after one that is not
-  pub fails_after : (edges : List EdgeRecord) → All Wide edges → AllCover p.x edges → Pairwise (Under p.x) edges → Pairwise (Fails (is_over p) zone_over) edges
+  pub fails_after : (edges : List EdgeRecord) → AllByRecursion Wide edges → AllCover p.x edges → Pairwise (Under p.x) edges → Pairwise (Fails (is_over p) zone_over) edges
   fails_after [] w c h = tt
   fails_after (e ∷ edges) w c h = (from edges w.1 c.1 h.0, fails_after edges w.1 c.1 h.1)
     where
@@ -95,6 +95,6 @@ module _ (p : Point) where
           by true q =
               absurd (both_ways (is_over p e) failed (sym (over_is_under p e c.0) ∙ lower_is_under p.x p.y f e wf w.0 c.0 (never_under_each_other p.x e f u) (over_is_under p f cf ∙ q)))
 
-      from : (rest : List EdgeRecord) → All Wide rest → AllCover p.x rest → All (Under p.x e) rest → All (Fails (is_over p) zone_over e) rest
+      from : (rest : List EdgeRecord) → AllByRecursion Wide rest → AllCover p.x rest → AllByRecursion (Under p.x e) rest → AllByRecursion (Fails (is_over p) zone_over e) rest
       from [] wr cr hr = tt
       from (f ∷ rest) wr cr hr = (fails f wr.0 cr.0 hr.0, from rest wr.1 cr.1 hr.1)

@@ -1,7 +1,7 @@
 -- Every slab of orderly edges: its tree is fit and low, and a visit of it emits the zone of a point in the slab.
 -- Assumes nothing.
 use Rattle.std.proofs.Common.{◌≡◌, suc, ◌+◌, ◌*◌, ◌≤◌, Bool, true, false, cond, List, [], ◌∷◌, length, ℤ, pos, nat_abs, Some, None, filter, Option, sym, refl, ap, ◌∙◌, subst, arith}
-use Rattle.std.specs.List.{AllByRecursion as All}
+use Rattle.std.specs.List.{AllByRecursion}
 use Rattle.std.proofs.ByRecursion.{All-weaker, all_kept_by, kept_by_passes, all_shuffled}
 use Rattle.std.proofs.lemmas.Bool.{and_parts, and_left, cond_both, cond-true, cond-false, true≢false}
 use Rattle.records.specs.declared.raw.EdgeRecord.{EdgeRecord}
@@ -43,15 +43,15 @@ slab_length held (Some west) =
 pub slab_depth : (held : List EdgeRecord) → length held ≤ 64 → (west : Option ℤ) → depth (bush_of edges_before (slab_edges held west)) ≤ 7
 slab_depth held few west = depth_of 7 edges_before edges_halve (slab_edges held west) (omega (arith, slab_length held west))
 
-pub all_slab : (P : EdgeRecord → Type 0) (held : List EdgeRecord) (west : Option ℤ) → All P held → All P (slab_edges held west)
+pub all_slab : (P : EdgeRecord → Type 0) (held : List EdgeRecord) (west : Option ℤ) → AllByRecursion P held → AllByRecursion P (slab_edges held west)
 all_slab P held None h = tt
 all_slab P held (Some west) h =
     all_shuffled P (covering west held) (sorted (from_below west) (covering west held)) (shuffled_sorted (from_below west) (covering west held)) (all_kept_by (λ e. covers e west) P held h)
 
-pub slab_fits : (held : List EdgeRecord) → All Parts held → (west : Option ℤ) → FitsWhole zone_judging (slab_tree held west)
+pub slab_fits : (held : List EdgeRecord) → AllByRecursion Parts held → (west : Option ℤ) → FitsWhole zone_judging (slab_tree held west)
 slab_fits held h west =
     edge_tree_fits (bush_of edges_before (slab_edges held west)) (pos 0) refl
-    (subst (All Parts) (sym (elements_of edges_before edges_halve (slab_edges held west))) (all_slab Parts held west h))
+    (subst (AllByRecursion Parts) (sym (elements_of edges_before edges_halve (slab_edges held west))) (all_slab Parts held west h))
 
 pub slab_levels : (held : List EdgeRecord) → length held ≤ 64 → (west : Option ℤ) → levels (slab_tree held west) ≤ 8
 slab_levels held few west =
@@ -68,7 +68,7 @@ slab_visited p held few west =
     weaker p (slab_tree held west) (nat_abs (zone_found p held west)) (suc (depth bush)) (84 * depth bush + 8) 8 596 (omega arith) (omega arith)
     (visited_edges p bush (pos 0))
 
-kept_twice : {X : Type 0} (first second : X → Bool) (xs : List X) → All (λ x. first x ≡ true → second x ≡ true) xs → filter first xs ≡ filter first (filter second xs)
+kept_twice : {X : Type 0} (first second : X → Bool) (xs : List X) → AllByRecursion (λ x. first x ≡ true → second x ≡ true) xs → filter first xs ≡ filter first (filter second xs)
 kept_twice first second [] h = refl
 kept_twice first second (x ∷ xs) h = by (first x) (second x) refl refl (kept_twice first second xs h.1)
   where
@@ -87,7 +87,7 @@ kept_twice first second (x ∷ xs) h = by (first x) (second x) refl refl (kept_t
 
 module _ (p : Point) (held : List EdgeRecord) (apart : Apart held) where
   abbrev Alike : ℤ → Type 0
-  Alike west = All (λ e. covers e p.x ≡ covers e west) held
+  Alike west = AllByRecursion (λ e. covers e p.x ≡ covers e west) held
 
   -- the edges that do not cover the west bound do not matter
   only_covering : (west : ℤ) → Alike west → zone_at held p.x p.y ≡ zone_at (covering west held) p.x p.y
@@ -114,10 +114,10 @@ module _ (p : Point) (held : List EdgeRecord) (apart : Apart held) where
     edges_cover : AllCover west edges
     edges_cover = all_shuffled (λ e. covers e west ≡ true) kept edges (shuffled_sorted (from_below west) kept) kept_cover
 
-    edges_alike : All (λ e. covers e p.x ≡ covers e west) edges
+    edges_alike : AllByRecursion (λ e. covers e p.x ≡ covers e west) edges
     edges_alike = all_slab (λ e. covers e p.x ≡ covers e west) held (Some west) alike
 
-    cover_from : (es : List EdgeRecord) → All (λ e. covers e p.x ≡ covers e west) es → AllCover west es → AllCover p.x es
+    cover_from : (es : List EdgeRecord) → AllByRecursion (λ e. covers e p.x ≡ covers e west) es → AllCover west es → AllCover p.x es
     cover_from [] s c = tt
     cover_from (e ∷ es) s c = (s.0 ∙ c.0, cover_from es s.1 c.1)
 
@@ -137,7 +137,7 @@ module _ (p : Point) (held : List EdgeRecord) (apart : Apart held) where
         ∙ sym (only_covering west alike ∙ any_order_names_it kept edges p.x p.y kept_apart (shuffled_sorted (from_below west) kept))
 
   -- in the slab whose edges are those that cover the point's x, the zone found is that of the point
-  pub zone_in_slab : (west : Option ℤ) → All (CoveredAlike p.x west) held → zone_found p held west ≡ zone_at held p.x p.y
+  pub zone_in_slab : (west : Option ℤ) → AllByRecursion (CoveredAlike p.x west) held → zone_found p held west ≡ zone_at held p.x p.y
   zone_in_slab None alike =
       sym (zone_of_open_ground held p.x p.y (All-weaker (λ e. covers e p.x ≡ false) (λ e. is_under p.x p.y e ≡ false)
       (λ e none. and_left (covers e p.x) (at_most (height e p.x) (whole p.y)) none) held alike))

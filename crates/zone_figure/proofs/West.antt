@@ -3,7 +3,7 @@
 use Rattle.std.proofs.Common.{◌≡◌, Bool, true, false, cond, not, ◌&&◌, List, [], ◌∷◌, ℤ, ◌≤ℤ◌, ◌<ℤ◌, Some, None, Option, sym, refl, ap, ◌∙◌, subst, ap₂, arith}
 use lib.Signed.{lt_z, le_z}
 use borrow.Author.Differences.{ints}
-use Rattle.std.specs.List.{AllByRecursion as All}
+use Rattle.std.specs.List.{AllByRecursion}
 use Rattle.std.proofs.ByRecursion.{all-has, All-weaker}
 use Rattle.std.proofs.lemmas.Bool.{and_left, true≢false}
 use Rattle.algebra.proofs.Order.{int_lt→<ℤ, int_lt_false→≤ℤ, <ℤ→int_lt, ≤ℤ→int_lt_false, int_le→≤ℤ, int_le_false→<ℤ, ≤ℤ→int_le, <ℤ→int_le_false, ≤ℤ-trans, ≤ℤ-<ℤ-trans, ≡→≤ℤ}
@@ -17,8 +17,8 @@ use Rattle.zone_figure.proofs.Bounds.{EndsIn}
 
 -- no bound is between the west bound and the point
 abbrev pub Agrees : ℤ → Option ℤ → List ℤ → Type 0
-Agrees x None bounds = All (λ b. le_z b x ≡ false) bounds
-Agrees x (Some west) bounds = (west ≤ℤ x) × All (λ b. le_z b x ≡ le_z b west) bounds
+Agrees x None bounds = AllByRecursion (λ b. le_z b x ≡ false) bounds
+Agrees x (Some west) bounds = (west ≤ℤ x) × AllByRecursion (λ b. le_z b x ≡ le_z b west) bounds
 
 east_of_both : (west x b : ℤ) → west ≤ℤ x → x <ℤ b → le_z b x ≡ le_z b west
 east_of_both west x b h k =
@@ -33,9 +33,9 @@ module _ (p : Point) where
 
   -- once a bound is found, some bound not west of it is the last
   abbrev Later : ℤ → Option ℤ → List ℤ → Type 0
-  Later from o bounds = (west : ℤ) × (o ≡ Some west) × (from ≤ℤ west) × (west ≤ℤ p.x) × All (λ b. le_z b p.x ≡ le_z b west) bounds
+  Later from o bounds = (west : ℤ) × (o ≡ Some west) × (from ≤ℤ west) × (west ≤ℤ p.x) × AllByRecursion (λ b. le_z b p.x ≡ le_z b west) bounds
 
-  later : (from : ℤ) (bounds : List ℤ) → from ≤ℤ p.x → All (λ b. from ≤ℤ b) bounds → Pairwise ◌≤ℤ◌ bounds → Later from (last (Some from) bounds) bounds
+  later : (from : ℤ) (bounds : List ℤ) → from ≤ℤ p.x → AllByRecursion (λ b. from ≤ℤ b) bounds → Pairwise ◌≤ℤ◌ bounds → Later from (last (Some from) bounds) bounds
   later from [] h k r = (from, refl, ≡→≤ℤ refl, h, tt)
   later from (b ∷ bounds) h k r =
       by (lt_z p.x b) refl (λ east. later b bounds east r.0 r.1) (later from bounds h k.1 r.1)

@@ -26,12 +26,12 @@ slab_edges held (Some west) = sorted (from_below west) (covering west held)
 abbrev pub edges_before : ℕ → ℕ
 edges_before m = half m - 1
 
--- The tree of edges on a ground: below an edge the ground is the same, above it the edge's zone.
+-- The tree of edges on a floor: below an edge the floor is the same, above it the edge's zone.
 abbrev pub edge_tree : ℤ → Bush EdgeRecord → Rose
-edge_tree ground bare = leaf (number_of Zone) (ground ∷ [])
-edge_tree ground (fork low e high) =
-    two (number_of Edge) (e.x1 ∷ e.y1 ∷ e.x2 ∷ e.y2 ∷ []) (edge_tree ground low) (edge_tree e.zone high)
+edge_tree floor bare = leaf (number_of Zone) (floor ∷ [])
+edge_tree floor (fork low e high) =
+    two (number_of Edge) (e.x1 ∷ e.y1 ∷ e.x2 ∷ e.y2 ∷ []) (edge_tree floor low) (edge_tree e.zone high)
 
--- A slab's tree is that of its edges on ground 0.
+-- A slab's tree is that of its edges on floor 0.
 abbrev pub slab_tree : List EdgeRecord → Option ℤ → Rose
 slab_tree held west = edge_tree (pos 0) (bush_of edges_before (slab_edges held west))

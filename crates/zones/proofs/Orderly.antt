@@ -1,7 +1,7 @@
 -- The edges that a register can hold.
 use Rattle.std.proofs.Common.{◌≡◌, ◌<◌, true, false, cond, not, leb, List, [], ◌∷◌, length, take, drop, ℤ, Some, None, sym, subst, ⊎_elim}
 use lib.Signed.{lt_z}
-use Rattle.std.specs.List.{AllByRecursion as All}
+use Rattle.std.specs.List.{AllByRecursion}
 use Rattle.std.proofs.lemmas.List.{take-append-drop}
 use Rattle.std.proofs.lemmas.Bool.{cases_Bool, cond-true, cond-false, leb-false, not-false, and_parts, or_parts}
 use Rattle.refusal.specs.declared.Refusal.TheVariants.{FieldOutOfRange, NumberHeld, RegisterFull, EdgeConflict}
@@ -44,7 +44,7 @@ module _ (rs : List EdgeRecord) (e : EdgeRecord) (free : add_refusal rs e ≡ No
   added_is_clear = first_passed _ EdgeConflict None past_room
 
 -- no conflict with any is no conflict with each
-clear_of_each : (e : EdgeRecord) (rs : List EdgeRecord) → conflicts_with_any e rs ≡ false → All (λ f. conflict e f ≡ false) rs
+clear_of_each : (e : EdgeRecord) (rs : List EdgeRecord) → conflicts_with_any e rs ≡ false → AllByRecursion (λ f. conflict e f ≡ false) rs
 clear_of_each e [] h = tt
 clear_of_each e (f ∷ rs) h =
     let parts = or_parts (conflict e f) (conflicts_with_any e rs) h in (parts.0, clear_of_each e rs parts.1)
@@ -60,11 +60,11 @@ apart_taken_out n (r ∷ rs) a =
     (λ f. subst Apart (sym (cond-false _ rs (r ∷ taken_out number_of n rs) f)) (a.0, all_taken_out number_of (λ s. conflict r s ≡ false) n rs a.1, apart_taken_out n rs a.2))
     (cases_Bool (same_number (number_of r) n))
 
-apart_put_in : (e : EdgeRecord) (rs : List EdgeRecord) → Wide e → All (λ f. conflict e f ≡ false) rs → Apart rs → Apart (put_in number_of e rs)
+apart_put_in : (e : EdgeRecord) (rs : List EdgeRecord) → Wide e → AllByRecursion (λ f. conflict e f ≡ false) rs → Apart rs → Apart (put_in number_of e rs)
 apart_put_in e rs w clear a =
     let k = place_of (by_number number_of) e rs in
     let whole = sym (take-append-drop k rs) in
-    subst Apart (sym (placed_is (by_number number_of) e rs)) (apart_placed (take k rs) (drop k rs) e w (subst (All (λ f. conflict e f ≡ false)) whole clear) (subst Apart whole a))
+    subst Apart (sym (placed_is (by_number number_of) e rs)) (apart_placed (take k rs) (drop k rs) e w (subst (AllByRecursion (λ f. conflict e f ≡ false)) whole clear) (subst Apart whole a))
 
 apart : (rs : List EdgeRecord) → CanBeHeld rs → Apart rs
 apart _ fresh = tt

@@ -1,6 +1,6 @@
 -- What is true of the edges that a register can hold.
 use Rattle.std.specs.Prelude.{◌≡◌, ◌≤◌, true, List, length, ℤ}
-use Rattle.std.specs.List.{ContainsAt as Has, AllByRecursion as All}
+use Rattle.std.specs.List.{ContainsAt, AllByRecursion}
 use Rattle.std.specs.List.Sorted.{IsPermutation}
 use Rattle.records.specs.declared.raw.EdgeRecord.{EdgeRecord}
 use Rattle.records.specs.Held.{Holdable, is_before}
@@ -14,7 +14,7 @@ CanBeHeld = Holdable number_of add_refusal
 
 -- Each is an edge, there are at most 64, their numbers rise, and no two conflict.
 pub record Orderly (rs : List EdgeRecord) : Type 0 where
-  pub fields : All (λ r. is_edge r ≡ true) rs
+  pub fields : AllByRecursion (λ r. is_edge r ≡ true) rs
   pub few : length rs ≤ 64
   pub numbers : rising (is_before number_of) rs ≡ true
   pub apart : Apart rs
@@ -25,7 +25,7 @@ HeldEdgesAreOrderly = (rs : List EdgeRecord) → CanBeHeld rs → Orderly rs
 -- Two registers with the same members hold the same list.
 abbrev pub SameEdgesSameList : Type 0
 SameEdgesSameList =
-    (rs ss : List EdgeRecord) → CanBeHeld rs → CanBeHeld ss → ((r : EdgeRecord) → Has rs r → Has ss r) → ((r : EdgeRecord) → Has ss r → Has rs r) → rs ≡ ss
+    (rs ss : List EdgeRecord) → CanBeHeld rs → CanBeHeld ss → ((r : EdgeRecord) → ContainsAt rs r → ContainsAt ss r) → ((r : EdgeRecord) → ContainsAt ss r → ContainsAt rs r) → rs ≡ ss
 
 -- The edge that names the zone of a point is unique.
 abbrev pub ZoneIsNamedByOneEdge : Type 0

@@ -7,7 +7,7 @@ returns c = record {
   topmost = topmost_names_the_zone;
   once = named_by_one_edge;
   zone = zone_is_that_named;
-  ground = zone_of_open_ground;
+  open_ground = zone_of_open_ground;
   unordered = any_order_names_it;
   worked = worked_cases;
 }
