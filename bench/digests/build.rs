@@ -1,12 +1,10 @@
-// Links the proved hashes: the folders of the two static libraries come from `run`.
+// Links the proved hashes: the folder of their static library comes from `run`.
 use std::env::var;
 
 fn main() {
-    for (name, library) in [("DIGESTS_LIBRARY", "bench_digests"), ("RATTLE_LIBRARY", "rattle_c")] {
-        let folder = var(name).expect("started by ./run");
-        println!("cargo:rerun-if-env-changed={name}");
-        println!("cargo:rerun-if-changed={folder}/lib{library}.a");
-        println!("cargo:rustc-link-search=native={folder}");
-        println!("cargo:rustc-link-lib=static={library}");
-    }
+    let folder = var("DIGESTS_LIBRARY").expect("started by ./run");
+    println!("cargo:rerun-if-env-changed=DIGESTS_LIBRARY");
+    println!("cargo:rerun-if-changed={folder}/libbench_digests.a");
+    println!("cargo:rustc-link-search=native={folder}");
+    println!("cargo:rustc-link-lib=static=bench_digests");
 }

@@ -13,11 +13,11 @@ pub data Form : Type 0 where
   nothing : Form
   term : ℤ → Monomial → Form → Form
 
--- `at_less`, `at-equal` or `at_Greater`, as the comparison says
+-- `at_less`, `at_equal` or `at_greater`, as the comparison says
 abbrev pub by_order : {A : Type 0} → Ordering → A → A → A → A
-by_order Ordering.lt at_less at-equal at_Greater = at_less
-by_order Ordering.eq at_less at-equal at_Greater = at-equal
-by_order Ordering.gt at_less at-equal at_Greater = at_Greater
+by_order Ordering.lt at_less at_equal at_greater = at_less
+by_order Ordering.eq at_less at_equal at_greater = at_equal
+by_order Ordering.gt at_less at_equal at_greater = at_greater
 
 -- the lexicographic order, in which to multiply two monomials by a third keeps their order: so a longer one comes before its own beginning
 abbrev pub compare_monomials : Monomial → Monomial → Ordering
