@@ -3,4 +3,5 @@ pub mod Extremes
 pub mod Successors
 pub mod Halved
 pub mod DrawnTrees
+pub mod Shapes
 pub mod HeldSites

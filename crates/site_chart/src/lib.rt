@@ -1,4 +1,6 @@
 //! The site chart: sites judged, and their figure drawn into a sheet.
+#![tactic(auto)]
+
 pub mod chart;
 mod drawing;
 mod judging;

@@ -7,6 +7,6 @@ use Rattle.site_chart.proofs.drawing.draw_sites.Goals as goal
 
 pub returns : goal.returns
 returns c =
-    let call = c.draw-x-tree in
-    let whole = told_alike c.args.sheet.now 0 _ _ call.result call.new.sheet (ap (λ (l : List SiteRecord). x_rose (tree_of l)) c.sort-by-x.ensures) (record { answered = call.ensures.answer; leaves = call.ensures.after }) in
+    let call = c.draw_x_tree in
+    let whole = told_alike c.args.sheet.now 0 _ _ call.result call.new.sheet (ap (λ (l : List SiteRecord). x_rose (tree_of l)) c.sort_by_x.ensures) (record { answered = call.ensures.answer; leaves = call.ensures.after }) in
     record { answer = whole.answered; after = whole.leaves }
