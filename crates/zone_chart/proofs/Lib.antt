@@ -5,4 +5,5 @@ pub mod Pairs
 pub mod Halved
 pub mod EdgeTrees
 pub mod RunTrees
+pub mod Shapes
 pub mod HeldEdges

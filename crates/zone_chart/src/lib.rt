@@ -1,4 +1,6 @@
 //! The zone chart: edges judged, and their figure drawn into a sheet.
+#![tactic(auto)]
+
 mod bounds;
 pub mod chart;
 mod coordinates;

@@ -1,0 +1,49 @@
+-- What a register holds is few edges; the nodes of a figure of edges are of their kinds' shapes, whatever is held.
+use Rattle.std.proofs.Common.{◌≡◌, ◌≤◌, List, length, map, ℤ, Some, None, Option, ap, refl, arith}
+use Rattle.std.proofs.lemmas.List.{length-map}
+use Rattle.records.specs.declared.raw.EdgeRecord.{EdgeRecord}
+use Rattle.records.specs.declared.raw.Point.{Point}
+use Rattle.records.proofs.Contents.{held_length}
+use Rattle.geometry.specs.declared.edge.Edge.{Edge}
+use Rattle.geometry.specs.Held.{raw_of}
+use Rattle.zones.specs.declared.register.ZoneRegister.{ZoneRegister}
+use Rattle.zones.specs.Register.{held}
+use Rattle.zones.proofs.Contents.{within}
+use Rattle.node.specs.declared.kind.Kind.TheVariants.{Split, Edge as EdgeKind, Zone}
+use Rattle.node.specs.Kinds.{shape_of}
+use Rattle.search.specs.Judging.{Judging}
+use Rattle.search.specs.Visit.{FitsWhole}
+use Rattle.zone_figure.specs.Judge.{zone_judging}
+use Rattle.zone_figure.specs.Halving.{Bush, bare, fork, bush_of}
+use Rattle.zone_figure.specs.Bounds.{bounds_of}
+use Rattle.zone_figure.specs.Slab.{edges_before, slab_edges, edge_tree, slab_tree}
+use Rattle.zone_figure.specs.Figure.{bounds_before, run_tree, zone_tree}
+use Rattle.zone_chart.proofs.Shapes.{shapes_in}
+
+pub few_edges : (r : ZoneRegister) (edges : List Edge) → map raw_of edges ≡ held r → length edges ≤ 64
+few_edges r edges is =
+    omega (arith, length-map edges raw_of, ap length is, held_length raw_of r.edges r.len (within r), r.few)
+
+abbrev pub zone_shapes : Judging Point
+zone_shapes = shapes_in zone_judging
+
+edges_fit : (bush : Bush EdgeRecord) (floor : ℤ) → FitsWhole zone_shapes (edge_tree floor bush)
+edges_fit bare floor =
+    (record { shape = shape_of Zone; judgeable = record { known = refl; counted = refl; fit = refl }; joined = refl }, tt)
+edges_fit (fork low e high) floor = (
+  record { shape = shape_of EdgeKind; judgeable = record { known = refl; counted = refl; fit = refl }; joined = refl },
+  (edges_fit low floor, (edges_fit high e.zone, tt)),
+)
+
+slab_fits : (edges : List EdgeRecord) (west : Option ℤ) → FitsWhole zone_shapes (slab_tree edges west)
+slab_fits edges west = edges_fit (bush_of edges_before (slab_edges edges west)) _
+
+run_fits : (edges : List EdgeRecord) (bush : Bush ℤ) (west : Option ℤ) → FitsWhole zone_shapes (run_tree edges west bush)
+run_fits edges bare west = slab_fits edges west
+run_fits edges (fork low x high) west = (
+  record { shape = shape_of Split; judgeable = record { known = refl; counted = refl; fit = refl }; joined = refl },
+  (run_fits edges low west, (run_fits edges high (Some x), tt)),
+)
+
+pub figure_fits : (edges : List EdgeRecord) → FitsWhole zone_shapes (zone_tree edges)
+figure_fits edges = run_fits edges (bush_of bounds_before (bounds_of edges)) None
