@@ -1,3 +1,5 @@
 //! What the calls of office, mirror and handheld answer, and that the definitions of their outcomes mean what the rules say.
+#![tactic(auto)]
+
 pub mod outcomes;
 pub mod promises;

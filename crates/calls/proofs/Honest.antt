@@ -20,7 +20,7 @@ use Rattle.search.proofs.Walking.{one_result}
 use Rattle.calls.specs.Chain.{guard, found}
 use Rattle.calls.specs.Checking.{reader_at, has_place_for, how_many_in, judged_as, ProofRead, no_more, checked_from, proof_read, answers_with}
 use Rattle.calls.specs.Proving.{zeros_after}
-use Rattle.calls.specs.Meaning.{root_of_figure, IsAccepted, HonestProofsAreAccepted}
+use Rattle.calls.specs.Meaning.{HasSmallNodes, root_of_figure, IsAccepted, HonestProofsAreAccepted}
 use Rattle.calls.proofs.Chains.{carried_at, guard_at, found_at}
 use Rattle.calls.proofs.Picking.{nth_there, picks_cons}
 use Rattle.calls.proofs.Digests.{length_digests, nth_digest}
@@ -39,7 +39,7 @@ length_ahead (Some x) xs = omega arith
 pub root_there : {Q : Type 0} (judging : Judging Q) (hash : List ℕ → List ℕ) (figure : List Node) → IsFigure judging figure → (digest : List ℕ) × (root_of_figure hash figure ≡ Some digest)
 root_there judging hash figure is = nth_there (digests_of hash figure) (root_of figure) (omega (arith, is.some, length_digests hash figure))
 
-module _ {Q : Type 0} (judging : Judging Q) (hash : List ℕ → List ℕ) (q : Q) (figure : List Node) (well : JudgesWell judging) (are : HasDigests hash) (is : IsFigure judging figure) (places : ℕ) (proof : List ℕ) where
+module _ {Q : Type 0} (judging : Judging Q) (hash : List ℕ → List ℕ) (q : Q) (figure : List Node) (well : JudgesWell judging) (small : HasSmallNodes judging) (are : HasDigests hash) (is : IsFigure judging figure) (places : ℕ) (proof : List ℕ) where
   abbrev digests : List (List ℕ)
   digests = digests_of hash figure
 
@@ -62,16 +62,16 @@ module _ {Q : Type 0} (judging : Judging Q) (hash : List ℕ → List ℕ) (q : 
       → Accepts (suc turns) held step k (picks digests (place ∷ waiting)) (ahead (judge_node judging q n).emits emitted)
   accepts_more turns held step k place waiting n rest emitted at few stands room later =
       let sound = is.sound place n at in
-      let read = read_node judging hash figure well are is place n at (from k) rest stands in
+      let read = read_node judging hash figure well small are is place n at (from k) rest stands in
       let seen = read.0 in
       let back = read.1 in
       let judged = judged_same judging q digests n (from k) sound.shape seen back in
-      let after = waiting_same judging q digests n (from k) sound.shape seen back (successors_there judging hash figure well are is place n at) waiting in
+      let after = waiting_same judging q digests n (from k) sound.shape seen back (successors_there judging hash figure well small are is place n at) waiting in
       let here = string_checked_lem judging hash q places held (suc step) (from k) (hash (string_in digests n)) (picks digests waiting) n.kind sound.shape seen back.kind_first sound.judgeable.known back.whole (ap hash back.string_is)
       (ap (judging.is_fit n.kind) back.numbers_are ∙ sound.judgeable.fit)
       (ap (λ (j : Judgement). has_place_for held places j.emits) judged ∙ has_place_lem held places (judge_node judging q n).emits room)
       (omega (arith, ap length after, length_picks digests (waiting_after judging q n waiting), few)) in
-      let next = later_same judging q digests n (from k) sound.shape seen back (successors_there judging hash figure well are is place n at) hash places turns held (suc step) waiting in
+      let next = later_same judging q digests n (from k) sound.shape seen back (successors_there judging hash figure well small are is place n at) hash places turns held (suc step) waiting in
       let on = check_on judging hash q places turns held step (from k) (hash (string_in digests n)) (picks digests waiting) (judged_as judging q seen) _ here (next ∙ later.1) in (
         suc later.0,
         ap (checked_from judging hash q places (suc turns) held step (from k)) (picks_cons digests place waiting (hash (string_in digests n)) (nth_digest hash judging figure is place n at)) ∙ on
@@ -107,13 +107,13 @@ accepted_with judging hash root q proof answers answer emitted strings h exact =
     }
 
 pub honest_proofs_are_accepted_lem : {Q : Type 0} (judging : Judging Q) → HonestProofsAreAccepted judging
-honest_proofs_are_accepted_lem judging hash figure q proof answers answer well are is answered within honest short fits =
+honest_proofs_are_accepted_lem judging hash figure q proof answers answer well small are is answered within honest short fits =
     let places = length answers in
     let root = root_there judging hash figure is in
     let same = one_result judging q most_waiting figure _ _ _ _ _ honest.walk answered.walk in
     let exact : sorted leb honest.emitted ≡ answer = ap (sorted leb) same.1 ∙ answered.exact in
     let many = sym (length_sorted leb honest.emitted) ∙ ap length exact in
-    let all = accepts judging hash q figure well are is places proof (root_of figure ∷ []) honest.visited honest.emitted honest.walk (suc (length proof)) 0 0 0 (omega arith) (omega arith) honest.is (omega (arith, many, fits)) in
+    let all = accepts judging hash q figure well small are is places proof (root_of figure ∷ []) honest.visited honest.emitted honest.walk (suc (length proof)) 0 0 0 (omega arith) (omega arith) honest.is (omega (arith, many, fits)) in
     let read =
     carried_at from_search (found (root_of_figure hash figure) NoRootAdopted) root.0 _ (found_at (root_of_figure hash figure) NoRootAdopted root.0 root.1)
     ∙ carried_at from_search (guard (judging.is_within_bounds q) QuestionOutOfBounds) tt _ (guard_at (judging.is_within_bounds q) QuestionOutOfBounds within)

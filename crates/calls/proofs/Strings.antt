@@ -23,6 +23,7 @@ use Rattle.search.proofs.Places.{nth_bound, all_picks, picks_each}
 use Rattle.calls.specs.Chain.{guard, found}
 use Rattle.calls.specs.Sheets.{all_before, is_sound, sound_at}
 use Rattle.calls.specs.Comparing.{goes_on_with}
+use Rattle.calls.specs.Meaning.{HasSmallNodes}
 use Rattle.calls.proofs.Chains.{onward_ok, onward_at, guard_at, found_ok, found_at, ok_same}
 use Rattle.calls.proofs.Digests.{length_digests, all_digests}
 
@@ -74,7 +75,7 @@ pub strings_more : (digests : List (List ℕ)) (n : Node) (visited : List Node) 
 strings_more digests n visited left rest first later = first ∙ ap (λ (t : List ℕ). string_in digests n ++ t) later
 
 -- the string of a figure's node that stands in a proof is read back
-module _ {Q : Type 0} (judging : Judging Q) (hash : List ℕ → List ℕ) (figure : List Node) (well : JudgesWell judging) (are : HasDigests hash) (is : IsFigure judging figure) where
+module _ {Q : Type 0} (judging : Judging Q) (hash : List ℕ → List ℕ) (figure : List Node) (well : JudgesWell judging) (small : HasSmallNodes judging) (are : HasDigests hash) (is : IsFigure judging figure) where
   pub successors_there : (place : ℕ) (n : Node) → slice_get figure place ≡ Some n → AllByRecursion (λ p. p < length (digests_of hash figure)) n.successors
   successors_there place n at =
       All-weaker (λ p. p < place) (λ p. p < length (digests_of hash figure)) (λ p h. omega (arith, nth_bound figure place n at, length_digests hash figure)) n.successors (is.sound place n at).before
@@ -90,6 +91,6 @@ module _ {Q : Type 0} (judging : Judging Q) (hash : List ℕ → List ℕ) (figu
       let front = take p.at p.bytes in
       let long : length front ≡ p.at = length-take-le p.at p.bytes (omega (arith, left, string_some digests n)) in
       let whole : front ++ (string ++ rest) ≡ p.bytes = ap (λ (t : List ℕ). front ++ t) (sym h) ∙ take-append-drop p.at p.bytes in
-      let back = written_is_read_back_lem front rest sound.shape n.kind n.numbers (picks digests n.successors) (well.small_kinds n.kind sound.shape sound.judgeable.known) (well.small_numbers n.kind n.numbers sound.shape sound.judgeable) (all_picks IsDigest digests n.successors (all_digests hash are figure)) (sym sound.judgeable.counted) (sym (picks_each digests n.successors (successors_there place n at) ∙ sound.joined)) in
+      let back = written_is_read_back_lem front rest sound.shape n.kind n.numbers (picks digests n.successors) (small.small_kinds n.kind sound.shape sound.judgeable.known) (small.small_numbers n.kind n.numbers sound.shape sound.judgeable) (all_picks IsDigest digests n.successors (all_digests hash are figure)) (sym sound.judgeable.counted) (sym (picks_each digests n.successors (successors_there place n at) ∙ sound.joined)) in
       let same : record { bytes = front ++ (string ++ rest); at = length front } ≡ p = λ i. record { bytes = whole i; at = long i } in
       (back.0, subst (λ (t : Position). ReadBack t sound.shape n.kind n.numbers (picks digests n.successors) back.0) same back.1)

@@ -1,11 +1,10 @@
 -- What a cross-check answers, on any sheet and any bytes.
-use Rattle.std.specs.Prelude.{◌≡◌, ℕ, zero, suc, ◌+◌, ◌-◌, Bool, true, false, cond, List, [], ◌∷◌, length, Ok, Err, Result, nat_le, nat_lt}
+use Rattle.std.specs.Prelude.{ℕ, zero, suc, ◌+◌, ◌-◌, Bool, false, cond, List, [], ◌∷◌, length, Ok, Err, Result, nat_le, nat_lt}
 use Rattle.std.specs.Str.{bytes_eq}
 use Rattle.refusal.specs.declared.Refusal.{Refusal}
 use Rattle.refusal.specs.declared.Refusal.TheVariants.{QuestionOutOfBounds, ProofTooLong, SheetUnsound, StackFull, KindNotKnown}
-use Rattle.reader.specs.declared.fault.ReaderFault.{ReaderFault}
 use Rattle.reader.specs.Parts.{part}
-use Rattle.reader.specs.Reading.{Position, onward, map_ok, read_kind, read_string, bytes_left, longest_proof}
+use Rattle.reader.specs.Reading.{Position, onward, read_kind, read_string, bytes_left, longest_proof}
 use Rattle.fault.specs.Carrying.{carried}
 use Rattle.fault.specs.Layers.{refusal_of_reader}
 use Rattle.search.specs.declared.sheet.SheetRecord.{SheetRecord}

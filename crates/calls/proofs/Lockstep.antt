@@ -22,7 +22,7 @@ use Rattle.calls.specs.Chain.{guard, found}
 use Rattle.calls.specs.Sheets.{digests_on, is_count}
 use Rattle.calls.specs.Checking.{reader_at, how_many_in, StringChecked, digests_after, judged_as, ProofRead, no_more, checked_from, proof_read}
 use Rattle.calls.specs.Comparing.{goes_on_with, compared_from, compare_answer}
-use Rattle.calls.specs.Meaning.{root_of_figure, ShowsFigure, IsClash, AcceptedProofsAreHonest}
+use Rattle.calls.specs.Meaning.{HasSmallNodes, root_of_figure, ShowsFigure, IsClash, AcceptedProofsAreHonest}
 use Rattle.calls.proofs.Chains.{ok_same, carried_ok, map_ok_ok, onward_at, guard_ok, guard_at, found_ok}
 use Rattle.calls.proofs.Picking.{picks_cons}
 use Rattle.calls.proofs.Digests.{nth_digest}
@@ -31,7 +31,7 @@ use Rattle.calls.proofs.CheckSteps.{finished_ok, opened_ok, judged_same, later_s
 use Rattle.calls.proofs.CompareSteps.{there_from, clash_there, compare_on, compare_differs}
 use Rattle.calls.proofs.Honest.{accepted_with}
 
-module _ {Q : Type 0} (judging : Judging Q) (hash : List ℕ → List ℕ) (q : Q) (figure : List Node) (well : JudgesWell judging) (are : HasDigests hash) (is : IsFigure judging figure) (places : ℕ) (proof : List ℕ) where
+module _ {Q : Type 0} (judging : Judging Q) (hash : List ℕ → List ℕ) (q : Q) (figure : List Node) (well : JudgesWell judging) (small : HasSmallNodes judging) (are : HasDigests hash) (is : IsFigure judging figure) (places : ℕ) (proof : List ℕ) where
   abbrev digests : List (List ℕ)
   digests = digests_of hash figure
 
@@ -76,7 +76,7 @@ module _ {Q : Type 0} (judging : Judging Q) (hash : List ℕ → List ℕ) (q : 
         → (done : ProofRead) → CheckStep judging hash q places turns held step (from k) (hash (string_in digests n)) (picks digests waiting) done → SameNode done
     same_node rest stand done at =
         let sound = is.sound place n there in
-        let read = read_node judging hash figure well are is place n there (from k) rest stand in
+        let read = read_node judging hash figure well small are is place n there (from k) rest stand in
         let seen = read.0 in
         let back = read.1 in
         let tests = at.tests in
@@ -85,7 +85,7 @@ module _ {Q : Type 0} (judging : Judging Q) (hash : List ℕ → List ℕ) (q : 
         let same : at.s.seen ≡ seen = ok_same {E = ReaderFault} at.s.seen seen (sym tests.whole ∙ ap (read_string (from k)) shape ∙ back.whole) in
         let string : at.s ≡ judged_as judging q seen = tests.is ∙ ap (judged_as judging q) same in
         let judged : at.s.judgement ≡ judge_node judging q n = ap (λ (t : StringChecked). t.judgement) string ∙ judged_same judging q digests n (from k) sound.shape seen back in
-        let next = later_same judging q digests n (from k) sound.shape seen back (successors_there judging hash figure well are is place n there) hash places turns held (suc step) waiting in
+        let next = later_same judging q digests n (from k) sound.shape seen back (successors_there judging hash figure well small are is place n there) hash places turns held (suc step) waiting in
         record {
           others = at.others;
           later = sym next ∙ subst (λ (t : StringChecked). checked_from judging hash q places turns (held + how_many_in t.judgement.emits) (suc step) (record { bytes = proof; at = t.seen.ends }) (digests_after t (picks digests waiting)) ≡ Ok at.others) string at.later;
@@ -150,13 +150,13 @@ compare_shown judging hash figure sheet q proof shows within short =
     ∙ ap (λ (t : List (List ℕ)). compared_from judging hash q figure t (suc (length proof)) (record { bytes = proof; at = 0 }) (root_of figure ∷ [])) shows.digests
 
 pub accepted_proofs_are_honest_lem : {Q : Type 0} (judging : Judging Q) → AcceptedProofsAreHonest judging
-accepted_proofs_are_honest_lem judging hash figure sheet q proof answers answer checked well are is shows answered h never =
+accepted_proofs_are_honest_lem judging hash figure sheet q proof answers answer checked well small are is shows answered h never =
     let places = length answers in
     let a = map_ok_ok _ (proof_read judging hash (root_of_figure hash figure) q proof places) checked h in
     let done = a.0 in
     let first = opened_first judging hash (root_of_figure hash figure) q proof places done a.1 in
     let read = ap (checked_from judging hash q places (suc (length proof)) 0 0 (record { bytes = proof; at = 0 })) (picks_cons (digests_of hash figure) (root_of figure) [] first.digest first.adopted) ∙ first.read in
-    let walked = lockstep judging hash q figure well are is places proof (root_of figure ∷ []) answered.visited answered.emitted answered.walk (suc (length proof)) 0 0 0 done (omega arith) (omega arith) read
+    let walked = lockstep judging hash q figure well small are is places proof (root_of figure ∷ []) answered.visited answered.emitted answered.walk (suc (length proof)) 0 0 0 done (omega arith) (omega arith) read
     (λ clash. never (subst IsClash (sym (compare_shown judging hash figure sheet q proof shows first.within first.short)) clash)) in
     let whole : done ≡ record { emitted = answered.emitted; strings = done.strings; bytes = length proof } =
     let e = walked.emits in

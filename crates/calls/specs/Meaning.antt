@@ -1,12 +1,13 @@
 -- What the outcomes of the calls mean: walks of what a sheet shows, honest proofs, and collisions of the hash.
-use Rattle.std.specs.Prelude.{◌≡◌, ℕ, suc, ◌≤◌, true, List, [], ◌∷◌, map, length, Some, Ok, Err, Option, Result}
-use Rattle.std.specs.List.{slice_get}
+use Rattle.std.specs.Prelude.{◌≡◌, ℕ, suc, ◌^◌, ◌<◌, ◌≤◌, true, List, [], ◌∷◌, map, length, ℤ, Some, Ok, Err, Option, Result}
+use Rattle.std.specs.List.{slice_get, AllByRecursion}
 use Rattle.refusal.specs.declared.Refusal.{Refusal}
+use Rattle.node.specs.declared.shape.Shape.{Shape}
+use Rattle.node.specs.Xdr.{IsInt}
 use Rattle.reader.specs.Parts.{part}
-use Rattle.reader.specs.Reading.{Position}
 use Rattle.search.specs.declared.sheet.SheetRecord.{SheetRecord}
 use Rattle.search.specs.Node.{Node}
-use Rattle.search.specs.Judging.{Judging}
+use Rattle.search.specs.Judging.{Judging, Judgeable}
 use Rattle.search.specs.Figure.{IsFigure, root_of}
 use Rattle.search.specs.Sheet.{usable}
 use Rattle.search.specs.Laws.{JudgesWell, Answers, longest_proof}
@@ -46,6 +47,11 @@ PublishedSheetsShowTheirFigure judging =
     (hash : List ℕ → List ℕ) (figure : List Node) (sheet : List SheetRecord)
     → JudgesWell judging → IsFigure judging figure → length figure ≤ usable sheet → ShowsFigure judging hash figure (published_sheet hash figure sheet)
 
+-- What a string can hold: known kinds and fit numbers have 32 bits.
+pub record HasSmallNodes {Q : Type 0} (judging : Judging Q) : Type 0 where
+  pub small_kinds : (kind : ℕ) (shape : Shape) → judging.shape_of kind ≡ Some shape → kind < 2 ^ 32
+  pub small_numbers : (kind : ℕ) (numbers : List ℤ) (shape : Shape) → Judgeable judging shape kind numbers → AllByRecursion IsInt numbers
+
 -- The root of a figure.
 abbrev pub root_of_figure : (List ℕ → List ℕ) → List Node → Option (List ℕ)
 root_of_figure hash figure = slice_get (digests_of hash figure) (root_of figure)
@@ -73,7 +79,7 @@ pub record IsAccepted {Q : Type 0} (judging : Judging Q) (hash : List ℕ → Li
 abbrev pub HonestProofsAreAccepted : {Q : Type 0} → Judging Q → Type 0
 HonestProofsAreAccepted {Q} judging =
     (hash : List ℕ → List ℕ) (figure : List Node) (question : Q) (proof answers answer : List ℕ)
-    → JudgesWell judging → HasDigests hash → IsFigure judging figure → Answers judging figure question answer
+    → JudgesWell judging → HasSmallNodes judging → HasDigests hash → IsFigure judging figure → Answers judging figure question answer
     → judging.is_within_bounds question ≡ true → IsHonest judging hash figure question proof
     → length proof ≤ longest_proof → length answer ≤ length answers
     → IsAccepted judging hash (root_of_figure hash figure) question proof answers answer
@@ -90,7 +96,7 @@ IsClash (Err refusal) = ⊥
 abbrev pub AcceptedProofsAreHonest : {Q : Type 0} → Judging Q → Type 0
 AcceptedProofsAreHonest {Q} judging =
     (hash : List ℕ → List ℕ) (figure : List Node) (sheet : List SheetRecord) (question : Q) (proof answers answer : List ℕ) (checked : Checked)
-    → JudgesWell judging → HasDigests hash → IsFigure judging figure → ShowsFigure judging hash figure sheet → Answers judging figure question answer
+    → JudgesWell judging → HasSmallNodes judging → HasDigests hash → IsFigure judging figure → ShowsFigure judging hash figure sheet → Answers judging figure question answer
     → check_answer judging hash (root_of_figure hash figure) question proof answers ≡ Ok checked
     → (IsClash (compare_answer judging hash sheet (length figure) question proof) → ⊥)
     → IsHonest judging hash figure question proof × IsAccepted judging hash (root_of_figure hash figure) question proof answers answer
