@@ -1,5 +1,5 @@
 -- The worked cases of the rules: what they say, and whether the definitions agree.
-use Rattle.std.specs.Prelude.{◌≡◌, ℕ, suc, Bool, true, false, cond, ◌&&◌, List, [], ◌∷◌, ◌++◌, reverse, length, take, replicate, ℤ, pos, Some, None, Ok, Err, Option, Result, ◌==◌, nat_le}
+use Rattle.std.specs.Prelude.{◌≡◌, ℕ, Bool, true, false, cond, ◌&&◌, List, [], ◌∷◌, ◌++◌, reverse, length, take, replicate, pos, Some, None, Ok, Err, Option, Result, ◌==◌, nat_le}
 use Rattle.std.specs.Str.{bytes_eq}
 use Rattle.refusal.specs.declared.Refusal.{Refusal}
 use Rattle.refusal.specs.Table as table
@@ -11,8 +11,6 @@ use Rattle.fault.specs.declared.report.Fault.{Fault}
 use Rattle.search.specs.declared.sheet.SheetRecord.{SheetRecord}
 use Rattle.search.specs.Judging.{Judging}
 use Rattle.search.specs.Drawing.{Drawing}
-use Rattle.calls.specs.declared.outcomes.Proved.{Proved}
-use Rattle.calls.specs.declared.outcomes.Checked.{Checked}
 use Rattle.calls.specs.declared.outcomes.Comparison.{Comparison}
 use Rattle.calls.specs.declared.outcomes.Comparison.TheVariants.{Same, Difference, Clash}
 use Rattle.calls.specs.Publishing.{published_sheet, root_in}

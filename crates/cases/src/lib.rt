@@ -1,4 +1,6 @@
 //! The worked cases of the rules, held against the definitions.
+#![tactic(auto)]
+
 ghost use Rattle.cases.specs.Cases.{WorkedCasesHold};
 
 pub fn worked_cases_hold() -> u8
