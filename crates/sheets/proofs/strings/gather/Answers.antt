@@ -1,4 +1,4 @@
-use Rattle.std.proofs.Common.{◌≡◌, ℕ, ◌+◌, ◌<◌, ◌≤◌, min, List, [], length, get_or, take, set, Some, None, sym, refl, ap, ◌∙◌, subst, arith, rules}
+use Rattle.std.proofs.Common.{◌≡◌, ℕ, ◌<◌, ◌≤◌, min, List, length, get_or, take, Some, None, sym, ap, ◌∙◌, subst, arith, rules}
 use Rattle.std.specs.List.{slice_get, AllByRecursion}
 use Rattle.std.proofs.lemmas.List.{take_all}
 use Rattle.node.specs.Sizes.{IsDigest}
@@ -8,8 +8,8 @@ use Rattle.sheets.proofs.Gathering.{one_stored, none_stored, one_whole, none_who
 use Rattle.sheets.proofs.strings.gather.Goals as goal
 use Rattle.sheets.proofs.strings.gather.Goals.{then-at-count+then-at-sheet, else-at-count, else-at-count-via-then-at-count+else-at-sheet, else-at-count-via-else-at-count}
 
-pub offset-bounds-digests-found : goal.offset-bounds-digests-found
-offset-bounds-digests-found c =
+pub offset_bounds-digests-found : goal.offset_bounds-digests-found
+offset_bounds-digests-found c =
     let room : c.loop-place.found < length c.loop-place.digests = omega (arith, c.requires, c.loop-place.invariant.0, c.loop-place.auto.digests, c.loop-place-test.true) in
     search rules
 
@@ -18,9 +18,9 @@ loop-place-preserved c =
     elim c.if-at-count.branch [
       | then-at-count+then-at-sheet w ↦
           let place = get_or c.args.places.now c.loop-place.place-index 0 in
-          let digest = w.digest-of.result in
-          let is : slice_get (digests_on c.args.sheet.now c.args.count) place ≡ Some digest = digest_at c.args.sheet.now c.args.count place _ w.if-at-count.true w.if-at-sheet.true ∙ ap Some (sym w.digest-of.ensures.stored) in
-          let long : length digest ≡ 32 = w.digest-of.ensures.whole in
+          let digest = w.digest_of.result in
+          let is : slice_get (digests_on c.args.sheet.now c.args.count) place ≡ Some digest = digest_at c.args.sheet.now c.args.count place _ w.if-at-count.true w.if-at-sheet.true ∙ ap Some (sym w.digest_of.ensures.stored) in
+          let long : length digest ≡ 32 = w.digest_of.ensures.whole in
           let room : c.loop-place.found < length c.loop-place.digests = omega (arith, c.requires, c.loop-place.invariant.0, c.loop-place.auto.digests, c.loop-place-test.true) in (
             omega (arith, w.found-is, c.loop-place.invariant.0),
             one_whole (digests_on c.args.sheet.now c.args.count) c.args.places.now c.loop-place.place-index digest c.loop-place-test.true c.loop-place.invariant.1 is long,

@@ -1,4 +1,4 @@
-use Rattle.std.proofs.Common.{◌≡◌, ℕ, ◌≤◌, min, length, ◌∙◌, arith}
+use Rattle.std.proofs.Common.{◌≤◌, min, length, ◌∙◌, arith}
 use Rattle.sheets.proofs.Soundness.{none_there, one_there}
 use Rattle.sheets.proofs.reading.sound_node.Goals as goal
 use Rattle.sheets.proofs.reading.sound_node.Goals.{then-place-count-via-then-place-count, then-place-count-via-else-place-count+then-place-sheet}
@@ -11,6 +11,6 @@ returns-then-place-count g c =
 pub returns : goal.returns
 returns g c =
     record {
-      answer = c.sound-record.ensures.answer ∙ one_there g.C.Chart.judging c.args.sheet.now c.args.count c.args.place _ c.if-place-count.false c.if-place-sheet.false;
-      read = c.sound-record.ensures.read;
+      answer = c.sound_record.ensures.answer ∙ one_there g.C.Chart.judging c.args.sheet.now c.args.count c.args.place _ c.if-place-count.false c.if-place-sheet.false;
+      read = c.sound_record.ensures.read;
     }

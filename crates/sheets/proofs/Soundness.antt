@@ -1,16 +1,15 @@
 -- When the node at a place is refused, and which one is read.
-use Rattle.std.proofs.Common.{◌≡◌, ℕ, ◌<◌, ◌≤◌, min, Bool, true, false, ◌&&◌, List, [], ◌∷◌, map, length, get_or, take, is_some, Some, None, Ok, Err, Option, Result, sym, refl, ap, ◌∙◌, subst, arith}
+use Rattle.std.proofs.Common.{◌≡◌, ℕ, ◌<◌, ◌≤◌, min, true, false, List, length, get_or, take, is_some, Some, None, Ok, Err, Option, sym, refl, ap, ◌∙◌, arith}
 use Rattle.std.specs.List.{slice_get}
 use Rattle.std.proofs.lemmas.List.{length-map, length-take, length-take-le, get_or-map, get_or-take}
 use Rattle.std.proofs.lemmas.Option.{slice_get-get_or, slice_get_past}
 use Rattle.std.proofs.lemmas.Bool.{and_left, and_right, and_from}
-use Rattle.refusal.specs.declared.Refusal.{Refusal}
 use Rattle.refusal.specs.declared.Refusal.TheVariants.{SheetUnsound}
 use Rattle.node.specs.declared.shape.Shape.{Shape}
 use Rattle.reader.specs.Reading.{onward}
 use Rattle.search.specs.declared.sheet.SheetRecord.{SheetRecord}
 use Rattle.search.specs.Node.{Node}
-use Rattle.search.specs.Judging.{Judging, Judgeable}
+use Rattle.search.specs.Judging.{Judging}
 use Rattle.search.specs.Laws.{JudgesWell}
 use Rattle.calls.specs.Chain.{guard, found}
 use Rattle.calls.specs.Sheets.{or_bare, node_in, nodes_in, all_before, is_sound, sound_at}
