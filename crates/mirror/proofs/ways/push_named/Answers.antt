@@ -6,18 +6,18 @@ use Rattle.sheets.specs.Nodes.{node_of}
 use Rattle.mirror.proofs.Pushing.{pushed_alike, taken_within, ways_judged, ways_there}
 use Rattle.mirror.proofs.ways.push_named.Goals as goal
 
-pub slice-bounds-numbers-end : goal.slice-bounds-numbers-end
-slice-bounds-numbers-end g c =
+pub slice_bounds-numbers-end : goal.slice_bounds-numbers-end
+slice_bounds-numbers-end g c =
     let node = c.args.node.now in
     taken_within node.shape.numbers c.from.result node.numbers c.requires.judgeable.counted c.from.ensures
 
-pub slice-bounds-successors-end : goal.slice-bounds-successors-end
-slice-bounds-successors-end g c =
+pub slice_bounds-successors-end : goal.slice_bounds-successors-end
+slice_bounds-successors-end g c =
     let node = c.args.node.now in
     taken_within node.shape.successors c.from-2.result node.successors c.requires.joined c.from-2.ensures
 
-pub push-ways-requires : goal.push-ways-requires
-push-ways-requires g c =
+pub push_ways-requires : goal.push_ways-requires
+push_ways-requires g c =
     let node = c.args.node.now in
     let judging = g.C.Chart.judging in
     let ways = ways_judged judging c.args.question.now node.shape node.kind (node_of node).numbers (take c.from.result node.numbers) c.judge-verdict.result
@@ -37,5 +37,5 @@ returns g c =
     c.requires.judgeable c.requires.bounds (ap (λ n. take n node.numbers) c.from.ensures) c.judge-verdict.ensures in
     let same : onto (take c.from-2.result node.successors) (ways_of c.judge-verdict.result.ways) (contents stack) ≡ waiting_after judging c.args.question.now (node_of node) (contents stack) =
     (λ i. onto (take (c.from-2.ensures i) node.successors) (ways i) (contents stack)) in
-    let whole = pushed_alike _ _ c.push-ways.result (contents c.push-ways.new.stack) same c.push-ways.ensures.answer c.push-ways.ensures.after in
-    record { answer = whole.answered; after = whole.leaves; places = c.push-ways.ensures.places }
+    let whole = pushed_alike _ _ c.push_ways.result (contents c.push_ways.new.stack) same c.push_ways.ensures.answer c.push_ways.ensures.after in
+    record { answer = whole.answered; after = whole.leaves; places = c.push_ways.ensures.places }

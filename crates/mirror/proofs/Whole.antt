@@ -1,5 +1,5 @@
 -- The whole proof in the buffer, and zeros after it.
-use Rattle.std.proofs.Common.{◌≡◌, ℕ, suc, ◌+◌, ◌-◌, ◌≤◌, min, true, List, [], ◌∷◌, ◌++◌, length, take, replicate, Ok, Err, Result, sym, ap, ◌∙◌, arith}
+use Rattle.std.proofs.Common.{◌≡◌, ℕ, suc, ◌-◌, ◌≤◌, min, true, List, [], ◌∷◌, ◌++◌, length, take, replicate, Ok, Err, Result, sym, ap, ◌∙◌, arith}
 use lib.Seq.{take-append-le}
 use Rattle.std.proofs.lemmas.List.{length-take}
 use Rattle.refusal.specs.declared.Refusal.{Refusal}

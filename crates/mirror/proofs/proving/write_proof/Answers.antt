@@ -11,8 +11,8 @@ returns g c =
     let buffer = c.args.buffer.now in
     let part = take c.min-room.result buffer in
     let tested = after_tests judging c.args.sheet.now c.args.count c.args.question.now buffer (length part)
-    (sym c.is-within-bounds.ensures ∙ c.if-not-is-within-bounds.false) (sym c.is-count.ensures ∙ c.if-not-is-count.false) (room_cut buffer c.min-room.result c.min-room.ensures) in
+    (sym c.is_within_bounds.ensures ∙ c.if-not-is_within_bounds.false) (sym c.is_count.ensures ∙ c.if-not-is_count.false) (room_cut buffer c.min-room.result c.min-room.ensures) in
     record {
-      answer = c.write-strings.ensures.answer ∙ sym (ap (map_ok summed) tested);
-      stands = λ strings is. stands_in_whole c.write-strings.new.buffer (drop c.min-room.result buffer) (all_bytes strings) (c.write-strings.ensures.stands strings (sym tested ∙ is));
+      answer = c.write_strings.ensures.answer ∙ sym (ap (map_ok summed) tested);
+      stands = λ strings is. stands_in_whole c.write_strings.new.buffer (drop c.min-room.result buffer) (all_bytes strings) (c.write_strings.ensures.stands strings (sym tested ∙ is));
     }

@@ -25,17 +25,17 @@ loop-place-preserved g c =
     let judging = g.C.Chart.judging in
     let top = taken (contents c.loop-place.stack) (contents c.pop.new.self) c.in-Some.place c.in-Some.ensures.answer c.in-Some.ensures.after in
     let turned = goes_on_lem judging c.args.question.now (nodes_in judging c.args.sheet.now c.args.count) (digests_on c.args.sheet.now c.args.count) ((c.args.count - 1) ∷ [])
-    (length c.args.buffer.now) c.in-Some.place (contents c.loop-place.stack) (contents c.pop.new.self) (contents c.take-node.new.stack) c.loop-place.buffer c.take-node.new.buffer
+    (length c.args.buffer.now) c.in-Some.place (contents c.loop-place.stack) (contents c.pop.new.self) (contents c.take_node.new.stack) c.loop-place.buffer c.take_node.new.buffer
     c.loop-place.proved.strings c.loop-place.proved.bytes c.in-Ok.end
     c.loop-place.invariant.1 top c.loop-place.auto.buffer c.in-Ok.ensures.answer c.in-Ok.ensures.leaves in
-    (c.take-node.ensures.places, turned.so_far)
+    (c.take_node.ensures.places, turned.so_far)
 
 pub loop-place-smaller : goal.loop-place-smaller
 loop-place-smaller g c =
     let judging = g.C.Chart.judging in
     let top = taken (contents c.loop-place.stack) (contents c.pop.new.self) c.in-Some.place c.in-Some.ensures.answer c.in-Some.ensures.after in
     let turned = goes_on_lem judging c.args.question.now (nodes_in judging c.args.sheet.now c.args.count) (digests_on c.args.sheet.now c.args.count) ((c.args.count - 1) ∷ [])
-    (length c.args.buffer.now) c.in-Some.place (contents c.loop-place.stack) (contents c.pop.new.self) (contents c.take-node.new.stack) c.loop-place.buffer c.take-node.new.buffer
+    (length c.args.buffer.now) c.in-Some.place (contents c.loop-place.stack) (contents c.pop.new.self) (contents c.take_node.new.stack) c.loop-place.buffer c.take_node.new.buffer
     c.loop-place.proved.strings c.loop-place.proved.bytes c.in-Ok.end
     c.loop-place.invariant.1 top c.loop-place.auto.buffer c.in-Ok.ensures.answer c.in-Ok.ensures.leaves in
     omega (arith, turned.later, turned.so_far.within)
@@ -44,7 +44,7 @@ pub returns : goal.returns
 returns g c =
     let judging = g.C.Chart.judging in
     let inv = c.loop-place.invariant.1 in
-    let top = none_left (contents c.loop-place.stack) c.in-default.ensures.answer in
+    let top = none_left (contents c.loop-place.stack) c.in_default.ensures.answer in
     let whole = ends judging c.args.question.now (nodes_in judging c.args.sheet.now c.args.count) (digests_on c.args.sheet.now c.args.count) ((c.args.count - 1) ∷ [])
     (length c.args.buffer.now) (contents c.loop-place.stack) c.loop-place.buffer c.loop-place.proved.strings c.loop-place.proved.bytes inv top in
     record {

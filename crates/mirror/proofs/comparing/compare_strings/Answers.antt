@@ -25,9 +25,9 @@ loop-place-preserved g c =
     let top = taken (contents c.loop-place.stack) (contents c.pop.new.self) c.in-Some.place c.in-Some.ensures.answer c.in-Some.ensures.after in
     let on = ap Ok (sym c.in-GoesOn.is) in
     let turned = goes_on_lem judging g.H.Hash.digest c.args.question.now (nodes_in judging c.args.sheet.now c.args.count) (digests_on c.args.sheet.now c.args.count) ((c.args.count - 1) ∷ []) c.args.proof.now
-    c.in-Some.place (contents c.loop-place.stack) (contents c.pop.new.self) (contents c.compare-node.new.stack) c.loop-place.at c.in-GoesOn.end
-    c.loop-place.invariant.1 top (sym (on ∙ c.in-ok-compared.ensures.answer)) (λ node sound. c.in-ok-compared.ensures.waits node c.in-GoesOn.end (sym on) sound) in
-    (c.compare-node.ensures.places, turned.so_far)
+    c.in-Some.place (contents c.loop-place.stack) (contents c.pop.new.self) (contents c.compare_node.new.stack) c.loop-place.at c.in-GoesOn.end
+    c.loop-place.invariant.1 top (sym (on ∙ c.in_ok-compared.ensures.answer)) (λ node sound. c.in_ok-compared.ensures.waits node c.in-GoesOn.end (sym on) sound) in
+    (c.compare_node.ensures.places, turned.so_far)
 
 pub loop-place-smaller : goal.loop-place-smaller
 loop-place-smaller g c =
@@ -35,8 +35,8 @@ loop-place-smaller g c =
     let top = taken (contents c.loop-place.stack) (contents c.pop.new.self) c.in-Some.place c.in-Some.ensures.answer c.in-Some.ensures.after in
     let on = ap Ok (sym c.in-GoesOn.is) in
     let turned = goes_on_lem judging g.H.Hash.digest c.args.question.now (nodes_in judging c.args.sheet.now c.args.count) (digests_on c.args.sheet.now c.args.count) ((c.args.count - 1) ∷ []) c.args.proof.now
-    c.in-Some.place (contents c.loop-place.stack) (contents c.pop.new.self) (contents c.compare-node.new.stack) c.loop-place.at c.in-GoesOn.end
-    c.loop-place.invariant.1 top (sym (on ∙ c.in-ok-compared.ensures.answer)) (λ node sound. c.in-ok-compared.ensures.waits node c.in-GoesOn.end (sym on) sound) in
+    c.in-Some.place (contents c.loop-place.stack) (contents c.pop.new.self) (contents c.compare_node.new.stack) c.loop-place.at c.in-GoesOn.end
+    c.loop-place.invariant.1 top (sym (on ∙ c.in_ok-compared.ensures.answer)) (λ node sound. c.in_ok-compared.ensures.waits node c.in-GoesOn.end (sym on) sound) in
     omega (arith, turned.later, turned.so_far.within)
 
 pub returns-in-Differs : goal.returns-in-Differs
@@ -45,23 +45,23 @@ returns-in-Differs g c =
     let top = taken (contents c.loop-place.stack) (contents c.pop.new.self) c.in-Some.place c.in-Some.ensures.answer c.in-Some.ensures.after in
     answers judging g.H.Hash.digest c.args.question.now (nodes_in judging c.args.sheet.now c.args.count) (digests_on c.args.sheet.now c.args.count) ((c.args.count - 1) ∷ []) c.args.proof.now
     c.in-Some.place (contents c.loop-place.stack) (contents c.pop.new.self) c.loop-place.at (Ok (Differs c.in-Differs.comparison)) (Ok c.in-Differs.comparison)
-    c.loop-place.invariant.1 top (ap Ok (sym c.in-Differs.is) ∙ c.in-ok-compared.ensures.answer) (differing c.in-Differs.comparison)
+    c.loop-place.invariant.1 top (ap Ok (sym c.in-Differs.is) ∙ c.in_ok-compared.ensures.answer) (differing c.in-Differs.comparison)
 
-pub returns-in-err-compared : goal.returns-in-err-compared
-returns-in-err-compared g c =
+pub returns-in_err-compared : goal.returns-in_err-compared
+returns-in_err-compared g c =
     let judging = g.C.Chart.judging in
     let top = taken (contents c.loop-place.stack) (contents c.pop.new.self) c.in-Some.place c.in-Some.ensures.answer c.in-Some.ensures.after in
-    let e = c.in-err-compared.field-0.0 in
-    let q = err_from_is_err_and c.from-residual.result c.from-residual.ensures.1 in
+    let e = c.in_err-compared.field-0.0 in
+    let q = err_from_is_err_and c.from_residual.result c.from_residual.ensures.1 in
     q.1 ∙ ap Err q.2
     ∙ answers judging g.H.Hash.digest c.args.question.now (nodes_in judging c.args.sheet.now c.args.count) (digests_on c.args.sheet.now c.args.count) ((c.args.count - 1) ∷ []) c.args.proof.now
     c.in-Some.place (contents c.loop-place.stack) (contents c.pop.new.self) c.loop-place.at (Err e) (Err e)
-    c.loop-place.invariant.1 top c.in-err-compared.ensures.answer (refusing e)
+    c.loop-place.invariant.1 top c.in_err-compared.ensures.answer (refusing e)
 
 pub returns-then-at-proof : goal.returns-then-at-proof
 returns-then-at-proof g c =
     let judging = g.C.Chart.judging in
-    let top = none_left (contents c.loop-place.stack) c.in-default.ensures.answer in
+    let top = none_left (contents c.loop-place.stack) c.in_default.ensures.answer in
     ap Ok (left_over judging c.args.sheet.now c.args.count c.args.proof.now c.loop-place.at c.requires.counted c.if-at-proof.true)
     ∙ sym (ends judging g.H.Hash.digest c.args.question.now (nodes_in judging c.args.sheet.now c.args.count) (digests_on c.args.sheet.now c.args.count) ((c.args.count - 1) ∷ []) c.args.proof.now
     (contents c.loop-place.stack) c.loop-place.at c.loop-place.invariant.1 top)
@@ -69,7 +69,7 @@ returns-then-at-proof g c =
 pub returns : goal.returns
 returns g c =
     let judging = g.C.Chart.judging in
-    let top = none_left (contents c.loop-place.stack) c.in-default.ensures.answer in
+    let top = none_left (contents c.loop-place.stack) c.in_default.ensures.answer in
     ap Ok (none_left_over judging c.args.sheet.now c.args.count c.args.proof.now c.loop-place.at c.if-at-proof.false)
     ∙ sym (ends judging g.H.Hash.digest c.args.question.now (nodes_in judging c.args.sheet.now c.args.count) (digests_on c.args.sheet.now c.args.count) ((c.args.count - 1) ∷ []) c.args.proof.now
     (contents c.loop-place.stack) c.loop-place.at c.loop-place.invariant.1 top)

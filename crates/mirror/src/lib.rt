@@ -1,4 +1,5 @@
 //! What whoever has a sheet can do, however it was written: prove and cross-check.
+#![tactic(auto)]
 
 mod comparing;
 mod differing;

@@ -24,28 +24,28 @@ returns-in-To c =
     let successors = c.args.successors.now in
     let Shaped : Ways → Type 0 = λ w. AllByRecursion (λ way. way < length successors) (ways_of w) in
     let shaped : Shaped (To c.in-To.way) = subst Shaped c.in-To.is c.requires.shaped in
-    let whole = to_one c.args.ways successors (contents stack) _ c.in-To.way c.push-place.result c.in-To.is shaped.0
-    (record { answered = c.push-place.ensures.answer; leaves = c.push-place.ensures.after }) in
-    record { answer = whole.answered; after = whole.leaves; places = c.push-place.ensures.places }
+    let whole = to_one c.args.ways successors (contents stack) _ c.in-To.way c.push_place.result c.in-To.is shaped.0
+    (record { answered = c.push_place.ensures.answer; leaves = c.push_place.ensures.after }) in
+    record { answer = whole.answered; after = whole.leaves; places = c.push_place.ensures.places }
 
-pub returns-in-err-push-place : goal.returns-in-err-push-place
-returns-in-err-push-place c =
+pub returns-in_err-push_place-in-ToBoth : goal.returns-in_err-push_place-in-ToBoth
+returns-in_err-push_place-in-ToBoth c =
     let stack = c.args.stack.now in
     let successors = c.args.successors.now in
-    let q = err_from_is_err_and c.from-residual.result c.from-residual.ensures.1 in
+    let q = err_from_is_err_and c.from_residual.result c.from_residual.ensures.1 in
     let Shaped : Ways → Type 0 = λ w. AllByRecursion (λ way. way < length successors) (ways_of w) in
     let shaped : Shaped (ToBoth c.in-ToBoth.first c.in-ToBoth.second) = subst Shaped c.in-ToBoth.is c.requires.shaped in
-    let whole = not_both c.args.ways successors (contents stack) _ c.in-ToBoth.first c.in-ToBoth.second c.in-err-push-place.field-0.0 c.from-residual.result
-    c.in-ToBoth.is shaped.0 shaped.1.0 c.in-err-push-place.ensures.answer (q.1 ∙ ap Err q.2) in
-    record { answer = whole.answered; after = whole.leaves; places = c.in-err-push-place.ensures.places }
+    let whole = not_both c.args.ways successors (contents stack) _ c.in-ToBoth.first c.in-ToBoth.second c.in_err-push_place-in-ToBoth.field-0.0 c.from_residual.result
+    c.in-ToBoth.is shaped.0 shaped.1.0 c.in_err-push_place-in-ToBoth.ensures.answer (q.1 ∙ ap Err q.2) in
+    record { answer = whole.answered; after = whole.leaves; places = c.in_err-push_place-in-ToBoth.ensures.places }
 
-pub returns-in-ok-push-place : goal.returns-in-ok-push-place
-returns-in-ok-push-place c =
+pub returns-in_ok-push_place-in-ToBoth : goal.returns-in_ok-push_place-in-ToBoth
+returns-in_ok-push_place-in-ToBoth c =
     let stack = c.args.stack.now in
     let successors = c.args.successors.now in
     let Shaped : Ways → Type 0 = λ w. AllByRecursion (λ way. way < length successors) (ways_of w) in
     let shaped : Shaped (ToBoth c.in-ToBoth.first c.in-ToBoth.second) = subst Shaped c.in-ToBoth.is c.requires.shaped in
-    let whole = to_both c.args.ways successors (contents stack) _ _ c.in-ToBoth.first c.in-ToBoth.second c.push-place-in-ToBoth-2.result
-    c.in-ToBoth.is shaped.0 shaped.1.0 c.in-ok-push-place.ensures.after
-    (record { answered = c.push-place-in-ToBoth-2.ensures.answer; leaves = c.push-place-in-ToBoth-2.ensures.after }) in
-    record { answer = whole.answered; after = whole.leaves; places = c.push-place-in-ToBoth-2.ensures.places }
+    let whole = to_both c.args.ways successors (contents stack) _ _ c.in-ToBoth.first c.in-ToBoth.second c.push_place-in-ToBoth-2.result
+    c.in-ToBoth.is shaped.0 shaped.1.0 c.in_ok-push_place-in-ToBoth.ensures.after
+    (record { answered = c.push_place-in-ToBoth-2.ensures.answer; leaves = c.push_place-in-ToBoth-2.ensures.after }) in
+    record { answer = whole.answered; after = whole.leaves; places = c.push_place-in-ToBoth-2.ensures.places }
