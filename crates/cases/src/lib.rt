@@ -3,6 +3,8 @@
 
 ghost use Rattle.cases.specs.Cases.{WorkedCasesHold};
 
+pub mod small_nodes;
+
 pub fn worked_cases_hold() -> u8
     ensures { WorkedCasesHold }
 {
