@@ -2,16 +2,26 @@
 ghost use Rattle.std.specs.Prelude.{◌≡◌, ◌∷◌};
 ghost use Rattle.std.specs.Option.{option_map};
 ghost use Rattle.script.specs.Words.{words_of};
+ghost use Rattle.byte_commands.specs.Read.{first_hex};
 ghost use Rattle.call_commands.specs.Asked.{asked};
 ghost use Rattle.call_commands.specs.Read.{count_in, first_point, first_question, first_rectangle, last_count, read_adopt, read_ask, read_call_command, read_call_words, read_check, read_cross_check, read_prove, read_publish, room_of};
 
 use crate::command::{CallCommand, Question};
-use byte_commands::read::hex_word;
+use hex_text::decode::decoded_length;
 use records::raw::{Point, Rectangle};
 use script::command::ChartKind;
 use script::read::LONGEST_LINE;
 use script::words::Words;
 use script::{read_number, same};
+
+/// The next word, if it is hex.
+fn hex_word<'a>(words: &mut Words<'a>) -> Option<&'a [u8]>
+    ensures { option_map (λ w. (w.now, words_of words.new.rest.now)) result ≡ first_hex (words_of words.old.rest.now) }
+{
+    let word = words.next()?;
+    decoded_length(word)?;
+    Some(word)
+}
 
 fn read_point(words: &mut Words) -> Option<Point>
     ensures { option_map (λ p. (p, words_of words.new.rest.now)) result ≡ first_point (words_of words.old.rest.now) }

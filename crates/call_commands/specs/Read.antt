@@ -1,5 +1,5 @@
 -- The table of commands of the calls: which words make up each, and what it says.
-use Rattle.std.specs.Prelude.{ℕ, cond, List, [], ◌∷◌, length, ℤ, pos, Some, None, codes, Option, nat_lt, unsigned_abs}
+use Rattle.std.specs.Prelude.{ℕ, cond, List, [], ◌∷◌, length, pos, Some, None, codes, Option, nat_lt, unsigned_abs}
 use Rattle.std.specs.Option.{option_map}
 use Rattle.std.specs.Str.{bytes_eq}
 use Rattle.records.specs.declared.raw.Point.{Point}

@@ -6,4 +6,4 @@ use Rattle.call_commands.proofs.append.append_comparison.Goals as goal
 
 pub returns-in-Difference : goal.returns-in-Difference
 returns-in-Difference c =
-    subst (λ (k : Comparison). Grown c.args.out.now (line_of_comparison k) c.append-at-record.result c.append-at-record.new.out) (sym c.in-Difference.is) c.append-at-record.ensures
+    subst (λ (k : Comparison). Grown c.args.out.now (line_of_comparison k) c.append_at_record.result c.append_at_record.new.out) (sym c.in-Difference.is) c.append_at_record.ensures

@@ -1,5 +1,5 @@
 -- The lines that answer the calls, without the line's end.
-use Rattle.std.specs.Prelude.{ℕ, List, [], ◌∷◌, ◌++◌, pos, codes, decimal}
+use Rattle.std.specs.Prelude.{ℕ, List, ◌∷◌, ◌++◌, pos, codes, decimal}
 use Rattle.std.specs.List.{flat_map}
 use Rattle.refusal.specs.Table.{words_of}
 use Rattle.fault.specs.declared.layers.Layer.{Layer}

@@ -1,0 +1,10 @@
+use Rattle.std.proofs.Common.{refl}
+use Rattle.call_commands.specs.Lines.{line_of_comparison}
+use Rattle.script.proofs.Growing.{grown_then, grown_stop}
+use Rattle.call_commands.proofs.append.append_after_colon.Goals as goal
+
+pub returns-in_err-append_text : goal.returns-in_err-append_text
+returns-in_err-append_text c = grown_stop c.from_residual.ensures.0 (line_of_comparison c.args.comparison) refl c.in_err-append_text.ensures
+
+pub returns : goal.returns
+returns c = grown_then refl c.in_ok-append_text.ensures c.append_comparison.ensures
