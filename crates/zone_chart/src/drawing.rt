@@ -18,23 +18,23 @@ use refusal::Refusal;
 use search::drafting::{Drawn, draw_node};
 use search::sheet::SheetRecord;
 
-/// The tree of a slab's edges on a ground: the middle edge, those below it on the same ground, those above it on its zone.
+/// The tree of a slab's edges on a floor: the middle edge, those below it on the same floor, those above it on its zone.
 fn draw_edges(
     sheet: &mut [SheetRecord],
     len: usize,
-    ground: Zone,
+    floor: Zone,
     edges: &[Crossing],
 ) -> Result<Drawn, Refusal>
-    ensures answer { result ≡ draft_answer sheet.old (drafted (drawn_so_far len sheet.old) (edge_tree (pos ground) (bush_of edges_before (map crossed edges.now)))) }
-    ensures after { sheet.new ≡ sheet_with sheet.old (drafted (drawn_so_far len sheet.old) (edge_tree (pos ground) (bush_of edges_before (map crossed edges.now)))).records }
+    ensures answer { result ≡ draft_answer sheet.old (drafted (drawn_so_far len sheet.old) (edge_tree (pos floor) (bush_of edges_before (map crossed edges.now)))) }
+    ensures after { sheet.new ≡ sheet_with sheet.old (drafted (drawn_so_far len sheet.old) (edge_tree (pos floor) (bush_of edges_before (map crossed edges.now)))).records }
 {
     if edges.len() == 0 {
-        return draw_node(sheet, len, zone_record(ground));
+        return draw_node(sheet, len, zone_record(floor));
     }
     let at = edges_before(edges.len());
     let middle = edges[at];
     let edge = middle.edge;
-    let below = draw_edges(sheet, len, ground, &edges[..at])?;
+    let below = draw_edges(sheet, len, floor, &edges[..at])?;
     let above = draw_edges(sheet, below.len, edge.zone(), &edges[at + 1..])?;
     draw_node(
         sheet,

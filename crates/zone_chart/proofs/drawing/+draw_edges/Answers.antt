@@ -11,23 +11,23 @@ pub returns-then-edges-eq0 : goal.returns-then-edges-eq0
 returns-then-edges-eq0 t c =
     let sheet = c.args.sheet.now in
     let len = c.args.len in
-    let ground = pos c.args.ground in
-    let call = leaf_drawn sheet len (number_of Zone) (ground ∷ []) c.zone_record.result c.zone_record.ensures c.draw_node.result c.draw_node.new.sheet c.draw_node.ensures.answer c.draw_node.ensures.after in
-    let whole = same_rose sheet len _ _ _ _ (tree_of_none ground c.args.edges.now c.if-edges-eq0.true) call in
+    let floor = pos c.args.floor in
+    let call = leaf_drawn sheet len (number_of Zone) (floor ∷ []) c.zone_record.result c.zone_record.ensures c.draw_node.result c.draw_node.new.sheet c.draw_node.ensures.answer c.draw_node.ensures.after in
+    let whole = same_rose sheet len _ _ _ _ (tree_of_none floor c.args.edges.now c.if-edges-eq0.true) call in
     record { answer = whole.answered; after = whole.leaves }
 
 pub returns-in_err-below : goal.returns-in_err-below
 returns-in_err-below t c =
     let sheet = c.args.sheet.now in
     let len = c.args.len in
-    let ground = pos c.args.ground in
+    let floor = pos c.args.floor in
     let edges = c.args.edges.now in
     let at = c.edges_before-at.result in
     let middle = c.index-edges-at.result in
     let zone = middle.edge.zone in
-    let tree = tree_of_edges ground edges at middle zone refl c.edges_before-at.ensures.place c.edges_before-at.ensures.inside c.index-edges-at.is in
-    let a = below ground edges at middle in
-    let b = above ground edges at middle zone in
+    let tree = tree_of_edges floor edges at middle zone refl c.edges_before-at.ensures.place c.edges_before-at.ensures.inside c.index-edges-at.is in
+    let a = below floor edges at middle in
+    let b = above floor edges at middle zone in
     let e = c.in_err-below.field-0.0 in
     let one : DrawsRose sheet len a (Err e) c.draw_edges.new.sheet = record { answered = c.in_err-below.ensures.answer; leaves = c.in_err-below.ensures.after } in
     let whole = same_rose sheet len _ _ _ _ tree (first_refused sheet len (number_of Edge) (numbers_of (crossed middle)) a b e _ one) in
@@ -38,14 +38,14 @@ pub returns-in_err-above : goal.returns-in_err-above
 returns-in_err-above t c =
     let sheet = c.args.sheet.now in
     let len = c.args.len in
-    let ground = pos c.args.ground in
+    let floor = pos c.args.floor in
     let edges = c.args.edges.now in
     let at = c.edges_before-at.result in
     let middle = c.index-edges-at.result in
     let zone = c.zone.result in
-    let tree = tree_of_edges ground edges at middle zone c.zone.ensures c.edges_before-at.ensures.place c.edges_before-at.ensures.inside c.index-edges-at.is in
-    let a = below ground edges at middle in
-    let b = above ground edges at middle zone in
+    let tree = tree_of_edges floor edges at middle zone c.zone.ensures c.edges_before-at.ensures.place c.edges_before-at.ensures.inside c.index-edges-at.is in
+    let a = below floor edges at middle in
+    let b = above floor edges at middle zone in
     let after = c.draw_edges.new.sheet in
     let x = c.in_ok-below.below in
     let one : DrawsRose sheet len a (Ok x) after = record { answered = c.in_ok-below.ensures.answer; leaves = c.in_ok-below.ensures.after } in
@@ -59,14 +59,14 @@ pub returns : goal.returns
 returns t c =
     let sheet = c.args.sheet.now in
     let len = c.args.len in
-    let ground = pos c.args.ground in
+    let floor = pos c.args.floor in
     let edges = c.args.edges.now in
     let at = c.edges_before-at.result in
     let middle = c.index-edges-at.result in
     let zone = c.zone.result in
-    let tree = tree_of_edges ground edges at middle zone c.zone.ensures c.edges_before-at.ensures.place c.edges_before-at.ensures.inside c.index-edges-at.is in
-    let a = below ground edges at middle in
-    let b = above ground edges at middle zone in
+    let tree = tree_of_edges floor edges at middle zone c.zone.ensures c.edges_before-at.ensures.place c.edges_before-at.ensures.inside c.index-edges-at.is in
+    let a = below floor edges at middle in
+    let b = above floor edges at middle zone in
     let after = c.draw_edges.new.sheet in
     let x = c.in_ok-below.below in
     let one : DrawsRose sheet len a (Ok x) after = record { answered = c.in_ok-below.ensures.answer; leaves = c.in_ok-below.ensures.after } in
