@@ -3,6 +3,7 @@
 
 pub mod chart;
 mod drawing;
+pub mod drawn;
 mod judging;
 mod nodes;
 mod orders;

@@ -1,6 +1,9 @@
 -- What a register holds is few edges; the nodes of a figure of edges are of their kinds' shapes, whatever is held.
-use Rattle.std.proofs.Common.{◌≡◌, ◌≤◌, List, length, map, ℤ, Some, None, Option, ap, refl, arith}
+use Rattle.std.proofs.Common.{◌≡◌, ◌≤◌, true, sym, subst, List, length, map, ℤ, Some, None, Option, ap, refl, arith}
+use Rattle.std.specs.List.{AllByRecursion}
+use Rattle.std.proofs.ByRecursion.{All-weaker}
 use Rattle.std.proofs.lemmas.List.{length-map}
+use Rattle.records.specs.Range.{is_coordinate}
 use Rattle.records.specs.declared.raw.EdgeRecord.{EdgeRecord}
 use Rattle.records.specs.declared.raw.Point.{Point}
 use Rattle.records.proofs.Contents.{held_length}
@@ -18,6 +21,10 @@ use Rattle.zone_figure.specs.Halving.{Bush, bare, fork, bush_of}
 use Rattle.zone_figure.specs.Bounds.{bounds_of}
 use Rattle.zone_figure.specs.Slab.{edges_before, slab_edges, edge_tree, slab_tree}
 use Rattle.zone_figure.specs.Figure.{bounds_before, run_tree, zone_tree}
+use Rattle.zone_figure.proofs.Halving.{bounds_halve, elements_of}
+use Rattle.zone_figure.proofs.Bounds.{all_bounds}
+use Rattle.zone_figure.proofs.Fitness.{Parts, run_tree_fits}
+use Rattle.zone_figure.proofs.Slabs.{slab_fits as slab_fits_lem}
 use Rattle.zone_chart.proofs.Shapes.{shapes_in}
 
 pub few_edges : (r : ZoneRegister) (edges : List Edge) → map raw_of edges ≡ held r → length edges ≤ 64
@@ -47,3 +54,10 @@ run_fits edges (fork low x high) west = (
 
 pub figure_fits : (edges : List EdgeRecord) → FitsWhole zone_shapes (zone_tree edges)
 figure_fits edges = run_fits edges (bush_of bounds_before (bounds_of edges)) None
+
+-- where the parts of each edge are in range, they are fit
+pub tree_is_fit : (edges : List EdgeRecord) → AllByRecursion Parts edges → FitsWhole zone_judging (zone_tree edges)
+tree_is_fit edges parts =
+    run_tree_fits edges (slab_fits_lem edges parts) (bush_of bounds_before (bounds_of edges)) None
+    (subst (AllByRecursion (λ x. is_coordinate x ≡ true)) (sym (elements_of bounds_before bounds_halve (bounds_of edges)))
+    (all_bounds (λ x. is_coordinate x ≡ true) edges (All-weaker Parts (λ e. (is_coordinate e.x1 ≡ true) × (is_coordinate e.x2 ≡ true)) (λ e part. (part.x1, part.x2)) edges parts)))

@@ -5,6 +5,7 @@ mod bounds;
 pub mod chart;
 mod coordinates;
 mod drawing;
+pub mod drawn;
 mod ends;
 mod fitness;
 mod halves;

@@ -1,0 +1,32 @@
+//! The figure of whatever a zone chart holds has sound nodes, with the root last.
+ghost use Rattle.std.specs.Prelude.{◌≡◌, true, map};
+ghost use Rattle.std.specs.List.{AllByRecursion};
+ghost use Rattle.geometry.specs.Edge.{is_edge};
+ghost use Rattle.geometry.specs.Held.{raw_of};
+ghost use Rattle.search.specs.Figure.{IsFigure};
+ghost use Rattle.zones.specs.Register.{held as held_edges};
+ghost use Rattle.zone_figure.specs.Figure.{zone_drawing};
+ghost use Rattle.zone_figure.specs.Judge.{zone_judging};
+
+use crate::chart::ZoneChart;
+use geometry::edge::Edge;
+
+impl ZoneChart {
+    /// Shows that, and does nothing else.
+    pub fn show_drawn(&self)
+        ensures { IsFigure zone_judging (zone_drawing.figure (held_edges self.now.register)) }
+    {
+        read_numbers(self.register.edges())
+    }
+}
+
+/// Reads every number and every zone, by which they are known to be in range.
+fn read_numbers(edges: &[Edge])
+    ensures { AllByRecursion (λ r. is_edge r ≡ true) (map raw_of edges.now) }
+{
+    for i in 0..edges.len() {
+        let edge = edges[i];
+        let _number = edge.record_number();
+        let _zone = edge.zone();
+    }
+}
