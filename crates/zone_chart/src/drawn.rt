@@ -3,19 +3,13 @@ ghost use Rattle.std.specs.Prelude.{◌≡◌, true, map};
 ghost use Rattle.std.specs.List.{AllByRecursion};
 ghost use Rattle.geometry.specs.Edge.{is_edge};
 ghost use Rattle.geometry.specs.Held.{raw_of};
-ghost use Rattle.search.specs.Figure.{IsFigure};
-ghost use Rattle.zones.specs.Register.{held as held_edges};
-ghost use Rattle.zone_figure.specs.Figure.{zone_drawing};
-ghost use Rattle.zone_figure.specs.Judge.{zone_judging};
 
 use crate::chart::ZoneChart;
+use calls::drawn::DrawnChart;
 use geometry::edge::Edge;
 
-impl ZoneChart {
-    /// Shows that, and does nothing else.
-    pub fn show_drawn(&self)
-        ensures { IsFigure zone_judging (zone_drawing.figure (held_edges self.now.register)) }
-    {
+impl DrawnChart for ZoneChart {
+    fn show_drawn(&self) {
         read_numbers(self.register.edges())
     }
 }

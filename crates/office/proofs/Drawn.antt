@@ -1,8 +1,8 @@
 -- A drawn figure read again from its records.
-use Rattle.std.proofs.Common.{◌≡◌, ℕ, suc, ◌+◌, ◌≤◌, min, Bool, true, false, cond, leb, List, [], ◌∷◌, ◌++◌, map, length, take, drop, replicate, ℤ, pos, Some, Ok, Err, Option, sym, refl, ap, ◌∙◌, subst, ⊎_elim, arith, length-append}
+use Rattle.std.proofs.Common.{◌≡◌, ℕ, suc, ◌+◌, ◌≤◌, min, leb, List, [], ◌∷◌, ◌++◌, map, length, take, drop, replicate, pos, Some, Ok, Err, Option, sym, refl, ap, ◌∙◌, subst, ⊎_elim, arith, length-append}
 use Rattle.std.specs.List.{slice_get}
 use Rattle.std.proofs.lemmas.List.{length-map, take_at, drop_at, take_all, take-take}
-use Rattle.std.proofs.lemmas.Bool.{cases_Bool, cond-true, cond-false, le-leb, leb-true, leb-false}
+use Rattle.std.proofs.lemmas.Bool.{cases_Bool, cond-true, cond-false, le-leb, leb-true}
 use Rattle.refusal.specs.declared.Refusal.{Refusal}
 use Rattle.refusal.specs.declared.Refusal.TheVariants.{SheetTooSmall}
 use Rattle.node.specs.declared.shape.Shape.{Shape}
@@ -13,7 +13,7 @@ use Rattle.search.specs.Figure.{IsFigure, Sound}
 use Rattle.search.specs.Laws.{JudgesWell}
 use Rattle.search.specs.Honest.{digests_of}
 use Rattle.search.specs.Sheet.{usable, filled_to, record_of, drawn_sheet, drawn_count}
-use Rattle.calls.specs.Publishing.{with_digests, published_records, published_sheet}
+use Rattle.calls.specs.Publishing.{with_digests, published_sheet}
 use Rattle.calls.proofs.Chains.{ok_same, not_ok}
 use Rattle.calls.specs.Sheets.{or_bare, node_in, nodes_in}
 

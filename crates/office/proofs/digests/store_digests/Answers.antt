@@ -15,7 +15,7 @@ unreachable-requires g c =
 
 pub loop-place-preserved : goal.loop-place-preserved
 loop-place-preserved g c =
-    next g.C.Chart.judging g.H.Hash.digest c.args.sheet.now c.args.count c.requires.within c.loop-place.place c.loop-place-test.true c.requires.figure blank c.loop-place.sheet c.loop-place.invariant _ c.in-Ok.digest c.with-digest.result c.in-Ok.ensures c.with-digest.ensures
+    next g.C.Chart.judging g.H.Hash.digest c.args.sheet.now c.args.count c.requires.within c.loop-place.place c.loop-place-test.true c.requires.figure blank c.loop-place.sheet c.loop-place.invariant _ c.in-Ok.digest c.with_digest.result c.in-Ok.ensures c.with_digest.ensures
 
 pub returns : goal.returns
 returns g c =

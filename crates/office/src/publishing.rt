@@ -4,17 +4,21 @@ ghost use Rattle.calls.specs.Publishing.{published_sheet, root_in};
 ghost use Rattle.search.specs.Sheet.{drawn_count};
 
 use crate::digests::store_digests;
+use calls::drawn::DrawnChart;
 use digest::Hash;
 use refusal::Refusal;
-use search::chart::Chart;
 use search::sheet::SheetRecord;
 
 /// Draws the figure of what is held into a sheet, each node with the digest of its string, and answers how many nodes it has.
 /// Refused where it has more than there are usable records, and then they hold its first nodes, with zero digests.
-pub fn publish<H: Hash, C: Chart>(register: &C, sheet: &mut [SheetRecord]) -> Result<usize, Refusal>
+pub fn publish<H: Hash, C: DrawnChart>(
+    register: &C,
+    sheet: &mut [SheetRecord],
+) -> Result<usize, Refusal>
     ensures answer { result ≡ drawn_count (C.Chart.drawing.figure (C.Chart.held register.now)) sheet.old }
     ensures after { sheet.new ≡ published_sheet H.Hash.digest (C.Chart.drawing.figure (C.Chart.held register.now)) sheet.old }
 {
+    register.show_drawn();
     match register.draw(sheet) {
         Ok(count) => {
             store_digests::<H, C>(sheet, count);

@@ -8,7 +8,7 @@ use Rattle.zone_figure.specs.Figure.{zone_tree}
 use Rattle.zone_figure.specs.Judge.{zone_judging}
 use Rattle.zone_figure.proofs.Fitness.{Parts, parts_of}
 use Rattle.zone_chart.proofs.HeldEdges.{tree_is_fit}
-use Rattle.zone_chart.proofs.chart.ZoneChart.show_drawn.Goals as goal
+use Rattle.zone_chart.proofs.drawn.ZoneChartDrawnChart.show_drawn.Goals as goal
 
 pub returns : goal.returns
 returns c =

@@ -6,7 +6,7 @@ use Rattle.sites.specs.Site.{is_site}
 use Rattle.site_figure.specs.Figure.{x_tree}
 use Rattle.site_figure.specs.Judge.{site_judging}
 use Rattle.site_figure.proofs.Fitness.{figure_fits}
-use Rattle.site_chart.proofs.chart.SiteChart.show_drawn.Goals as goal
+use Rattle.site_chart.proofs.drawn.SiteChartDrawnChart.show_drawn.Goals as goal
 
 pub returns : goal.returns
 returns c =
