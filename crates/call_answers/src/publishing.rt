@@ -7,16 +7,16 @@ ghost use Rattle.call_commands.specs.Lines.{line_of_published};
 ghost use Rattle.call_answers.specs.Printed.{fresh_sheet, publish_keeps, publish_prints};
 
 use call_commands::write::write_published;
+use calls::drawn::DrawnChart;
 use digest::Hash;
 use office::publishing::{publish, root_of};
 use script::reply::Reply;
 use script::write::write_reply;
-use search::chart::Chart;
 use search::sheet::SheetRecord;
 use std::alloc::{AllocError, Global};
 
 /// Publishes what is held into a sheet of so many records, keeps what is accepted, and prints its count and root.
-pub fn answer_publish<H: Hash, C: Chart>(
+pub fn answer_publish<H: Hash, C: DrawnChart>(
     heap: Global,
     register: &C,
     room: usize,
