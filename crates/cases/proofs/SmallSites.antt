@@ -14,7 +14,8 @@ use Rattle.sites.specs.Site.{is_site}
 use Rattle.sites.specs.Question.{runs_forward}
 use Rattle.site_figure.specs.Judge.{known_shape, number_at, site_of, is_fit_as, site_judging}
 use Rattle.calls.specs.Meaning.{HasSmallNodes}
-use Rattle.cases.proofs.Ranges.{coordinate_int, record_number_int, kind_small, none_int, two_int, three_int}
+use Rattle.search.proofs.Ranges.{coordinate_int, record_number_int, kind_small}
+use Rattle.cases.proofs.Ranges.{none_int, two_int, three_int}
 
 known_small : (number : ℕ) (kind : Option Kind) (shape : Shape) → kind_numbered number ≡ kind → known_shape kind ≡ Some shape → number < 2 ^ 32
 known_small number None shape is k = absurd (not_both shape k)
