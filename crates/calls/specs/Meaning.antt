@@ -3,7 +3,7 @@ use Rattle.std.specs.Prelude.{◌≡◌, ℕ, suc, ◌^◌, ◌<◌, ◌≤◌, 
 use Rattle.std.specs.List.{slice_get, AllByRecursion}
 use Rattle.refusal.specs.declared.Refusal.{Refusal}
 use Rattle.node.specs.declared.shape.Shape.{Shape}
-use Rattle.node.specs.Xdr.{IsInt}
+use Rattle.reader.specs.RoundTrips.{IsInt}
 use Rattle.reader.specs.Parts.{part}
 use Rattle.search.specs.declared.sheet.SheetRecord.{SheetRecord}
 use Rattle.search.specs.Node.{Node}

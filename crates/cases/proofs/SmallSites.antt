@@ -8,14 +8,13 @@ use Rattle.node.specs.declared.kind.Kind.{Kind}
 use Rattle.node.specs.declared.kind.Kind.TheVariants.{Empty, Split, Edge, Zone, XSpan, YSpan, Site}
 use Rattle.node.specs.declared.shape.Shape.{Shape}
 use Rattle.node.specs.Kinds.{kind_numbered}
-use Rattle.node.specs.Xdr.{IsInt}
+use Rattle.reader.specs.RoundTrips.{IsInt}
 use Rattle.search.proofs.Places.{not_both}
 use Rattle.sites.specs.Site.{is_site}
 use Rattle.sites.specs.Question.{runs_forward}
 use Rattle.site_figure.specs.Judge.{known_shape, number_at, site_of, is_fit_as, site_judging}
 use Rattle.calls.specs.Meaning.{HasSmallNodes}
-use Rattle.search.proofs.Ranges.{coordinate_int, record_number_int, kind_small}
-use Rattle.cases.proofs.Ranges.{none_int, two_int, three_int}
+use Rattle.cases.proofs.Ranges.{coordinate_int, record_number_int, kind_small, none_int, two_int, three_int}
 
 known_small : (number : ℕ) (kind : Option Kind) (shape : Shape) → kind_numbered number ≡ kind → known_shape kind ≡ Some shape → number < 2 ^ 32
 known_small number None shape is k = absurd (not_both shape k)

@@ -8,12 +8,11 @@ use Rattle.node.specs.declared.kind.Kind.{Kind}
 use Rattle.node.specs.declared.kind.Kind.TheVariants.{Empty, Split, Edge, Zone, XSpan, YSpan, Site}
 use Rattle.node.specs.declared.shape.Shape.{Shape}
 use Rattle.node.specs.Kinds.{kind_numbered, shape_of}
-use Rattle.node.specs.Xdr.{IsInt}
+use Rattle.reader.specs.RoundTrips.{IsInt}
 use Rattle.search.proofs.Places.{not_both}
 use Rattle.zone_figure.specs.Judge.{by_kind, split_fits, edge_fits, zone_fits, zone_judging}
 use Rattle.calls.specs.Meaning.{HasSmallNodes}
-use Rattle.search.proofs.Ranges.{coordinate_int, zone_int, kind_small}
-use Rattle.cases.proofs.Ranges.{one_int, four_int}
+use Rattle.cases.proofs.Ranges.{coordinate_int, zone_int, kind_small, one_int, four_int}
 
 known_small : (number : ℕ) (kind : Option Kind) (shape : Shape) → kind_numbered number ≡ kind
     → by_kind kind (Some (shape_of Split)) (Some (shape_of Edge)) (Some (shape_of Zone)) None ≡ Some shape → number < 2 ^ 32

@@ -1,14 +1,10 @@
 -- The external data representation (XDR, RFC 4506) of what a node's string holds. Every item takes a multiple of
 -- four bytes, and nothing stands between two items.
-use Rattle.std.specs.Prelude.{ℕ, suc, ◌+◌, ◌-◌, ◌*◌, ◌/◌, ◌%◌, ◌^◌, cond, List, [], ◌∷◌, ℤ, pos, negsuc, ◌≤ℤ◌, nat_lt, slice_index}
+use Rattle.std.specs.Prelude.{ℕ, suc, ◌+◌, ◌-◌, ◌*◌, ◌/◌, ◌%◌, ◌^◌, cond, List, [], ◌∷◌, ℤ, pos, negsuc, nat_lt, slice_index}
 
 -- An unsigned integer, 0 to 2^32 - 1: four bytes, the most significant first.
 abbrev pub xdr_uint : ℕ → List ℕ
 xdr_uint n = n / 2 ^ 24 % 256 ∷ n / 2 ^ 16 % 256 ∷ n / 2 ^ 8 % 256 ∷ n % 256 ∷ []
-
--- A number of 32 bits: -2^31 to 2^31 - 1.
-abbrev pub IsInt : ℤ → Type 0
-IsInt z = (negsuc (2 ^ 31 - 1) ≤ℤ z) × (z ≤ℤ pos (2 ^ 31 - 1))
 
 -- Two's complement: a negative number of 32 bits stands as what it lacks to 2^32 (negsuc n is -(n + 1)).
 abbrev pub twos_complement : ℤ → ℕ

@@ -43,7 +43,7 @@ pub fn append_field(out: &mut Vec<u8>, number: i64) -> Result<(), AllocError>
     append_digits(out, number as u64)
 }
 
-pub fn append_fields(out: &mut Vec<u8>, numbers: &[i64]) -> Result<(), AllocError>
+fn append_fields(out: &mut Vec<u8>, numbers: &[i64]) -> Result<(), AllocError>
     ensures { Grown out.old (flat_map field numbers.now) result out.new }
 {
     for number in numbers {
@@ -53,7 +53,11 @@ pub fn append_fields(out: &mut Vec<u8>, numbers: &[i64]) -> Result<(), AllocErro
 }
 
 /// A word with numbers after it.
-pub fn append_words(out: &mut Vec<u8>, verb: &[u8], numbers: &[i64]) -> Result<(), AllocError>
+pub(crate) fn append_words(
+    out: &mut Vec<u8>,
+    verb: &[u8],
+    numbers: &[i64],
+) -> Result<(), AllocError>
     ensures { Grown out.old (with_numbers verb.now numbers.now) result out.new }
 {
     append_text(out, verb)?;

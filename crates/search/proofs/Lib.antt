@@ -8,4 +8,3 @@ pub mod Finding
 pub mod Drafts
 pub mod Figures
 pub mod Sequences
-pub mod Ranges
