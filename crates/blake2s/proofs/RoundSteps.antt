@@ -1,10 +1,6 @@
--- The mixings of a round, and one round more.
+-- One round more.
 use Rattle.std.proofs.Common.{◌≡◌, ℕ, ◌+◌, List, sym, refl, ap, ◌∙◌, add-one}
-use Rattle.blake2s.specs.Mixing.{G, columns, diagonals, rounds}
-
-pub mixed : (made v w : List ℕ) (a b c d x y p q : ℕ) → made ≡ G w a b c d x y → w ≡ v → x ≡ p → y ≡ q → made ≡ G v a b c d p q
-mixed made v w a b c d x y p q is vector first second =
-    is ∙ ap (λ (u : List ℕ). G u a b c d x y) vector ∙ ap (λ (k : ℕ). G v a b c d k y) first ∙ ap (G v a b c d p) second
+use Rattle.blake2s.specs.Mixing.{columns, diagonals, rounds}
 
 pub rounds_none : (block v : List ℕ) → v ≡ rounds block v 0
 unfolding rounds

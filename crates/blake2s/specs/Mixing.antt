@@ -1,31 +1,23 @@
 -- RFC 7693, section 3: what a block does to the state.
-use Rattle.std.specs.Prelude.{ℕ, zero, suc, ◌+◌, ◌-◌, ◌*◌, ◌/◌, ◌%◌, ◌^◌, Bool, cond, List, [], ◌∷◌, set, bit_or, bit_xor, slice_index, slice_index_or, slice_set}
+use Rattle.std.specs.Prelude.{ℕ, zero, suc, ◌+◌, ◌*◌, ◌/◌, ◌%◌, ◌^◌, Bool, cond, List, [], ◌∷◌, set, bit_xor, slice_index, slice_index_or, slice_set}
+use Rattle.std.specs.Int.{w32, rotate_right}
 use Rattle.blake2s.specs.Constants.{IV, SIGMA}
 
--- Section 2.3: the sum modulo 2^32, and the rotation to the right by n bits.
+-- Section 2.3: the sum modulo 2^32.
 abbrev pub plus : ℕ → ℕ → ℕ
 plus x y = (x + y) % 2 ^ 32
 
-abbrev pub rotated : ℕ → ℕ → ℕ
-rotated n x = bit_or (x / 2 ^ n) ((x * 2 ^ (32 - n)) % 2 ^ 32)
-
--- Section 3.1: the mixing function G. Each half adds a word of the message; the rotations are those of section 2.1.
-unfoldable pub first_half : List ℕ → ℕ → ℕ → ℕ → ℕ → ℕ → List ℕ
-first_half v a b c d x =
+-- Section 3.1: the mixing function G. Each half adds a word of the message and rotates the words d and b; the rotations
+-- are those of section 2.1.
+unfoldable pub half : ℕ → ℕ → List ℕ → ℕ → ℕ → ℕ → ℕ → ℕ → List ℕ
+half r1 r2 v a b c d x =
     let v1 = set v a (plus (plus (slice_index v a) (slice_index v b)) x) in
-    let v2 = set v1 d (rotated 16 (bit_xor (slice_index v1 d) (slice_index v1 a))) in
+    let v2 = set v1 d (rotate_right w32 (bit_xor (slice_index v1 d) (slice_index v1 a)) r1) in
     let v3 = set v2 c (plus (slice_index v2 c) (slice_index v2 d)) in
-    slice_set v3 b (rotated 12 (bit_xor (slice_index v3 b) (slice_index v3 c)))
-
-unfoldable pub second_half : List ℕ → ℕ → ℕ → ℕ → ℕ → ℕ → List ℕ
-second_half v a b c d y =
-    let v1 = set v a (plus (plus (slice_index v a) (slice_index v b)) y) in
-    let v2 = set v1 d (rotated 8 (bit_xor (slice_index v1 d) (slice_index v1 a))) in
-    let v3 = set v2 c (plus (slice_index v2 c) (slice_index v2 d)) in
-    slice_set v3 b (rotated 7 (bit_xor (slice_index v3 b) (slice_index v3 c)))
+    slice_set v3 b (rotate_right w32 (bit_xor (slice_index v3 b) (slice_index v3 c)) r2)
 
 unfoldable pub G : List ℕ → ℕ → ℕ → ℕ → ℕ → ℕ → ℕ → List ℕ
-G v a b c d x y = second_half (first_half v a b c d x) a b c d y
+G v a b c d x y = half 8 7 (half 16 12 v a b c d x) a b c d y
 
 -- Section 2.4: the word i of a block of 64 bytes, least significant byte first.
 abbrev pub word_of : List ℕ → ℕ → ℕ

@@ -6,7 +6,7 @@ use crate::constants::IV;
 use crate::rounds::ten_rounds;
 
 // The working vector before the first round.
-fn first_vector(h: [u32; 8], count: u64, last: bool) -> [u32; 16]
+fn first_vector(h: [u32; 8], count: usize, last: bool) -> [u32; 16]
     ensures { result ≡ started h count last }
 {
     let [h0, h1, h2, h3, h4, h5, h6, h7] = h;
@@ -50,7 +50,7 @@ fn xored(h: [u32; 8], v: [u32; 16]) -> [u32; 8]
 }
 
 // Takes a block into the state; `count` bytes of the message are taken with it.
-pub(crate) fn absorb(h: &mut [u32; 8], block: &[u8; 64], count: u64, last: bool)
+pub(crate) fn absorb(h: &mut [u32; 8], block: &[u8; 64], count: usize, last: bool)
     ensures { h.new ≡ F h.old block.now count last }
 {
     let before = *h;

@@ -5,7 +5,7 @@ ghost use Rattle.blake2s.specs.DigestBytes.{joined_bytes};
 
 use crate::message::digest_of;
 use crate::state::Blake2s;
-use digest::Hash;
+use digest::{Hash, check_length};
 use refusal::Refusal;
 
 impl Hash for Blake2s {
@@ -15,10 +15,9 @@ impl Hash for Blake2s {
 
     ghost bytes = { unfold blake2s in λ message. joined_bytes (finished message) };
 
+    // The same two lines in both hashes; what differs is the digest of a message that fits.
     fn hash(message: &[u8]) -> Result<[u8; 32], Refusal> {
-        if message.len() > 65535 {
-            return Err(Refusal::MessageTooLong);
-        }
+        check_length(message.len())?;
         Ok(digest_of(message))
     }
 }

@@ -16,7 +16,7 @@ fn block_of(rest: &[u8]) -> [u8; 64]
 }
 
 // Takes the last bytes of a message of `size` bytes into the state. A whole block is read where it lies.
-pub(crate) fn absorb_last(h: &mut [u32; 8], rest: &[u8], size: u64)
+pub(crate) fn absorb_last(h: &mut [u32; 8], rest: &[u8], size: usize)
     requires { length rest.now ≤ 64 }
     ensures { h.new ≡ F h.old (filled rest.now) size true }
 {

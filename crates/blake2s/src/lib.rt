@@ -10,6 +10,7 @@ mod message;
 mod mixing;
 mod output;
 mod parts;
+mod places;
 mod rounds;
 mod state;
 mod vectors;

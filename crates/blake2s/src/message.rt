@@ -1,5 +1,6 @@
 // The digest of a message that is there whole: its blocks are read where they lie.
 ghost use Rattle.std.specs.Prelude.{◌≡◌, ◌-◌, ◌/◌, ◌≤◌, length};
+ghost use Rattle.digest.specs.Hashing.{longest};
 ghost use Rattle.blake2s.specs.Standard.{first_state, blake2s};
 
 use crate::blocks::absorb_blocks;
@@ -31,13 +32,13 @@ pub(crate) fn blocks_before_last(size: usize) -> usize
 }
 
 pub(crate) fn digest_of(message: &[u8]) -> [u8; 32]
-    requires { length message.now ≤ 65535 }
+    requires { length message.now ≤ longest }
     ensures { result ≡ blake2s message.now }
 {
     let (front, rest) = message.split_at(64 * blocks_before_last(message.len()));
     let (blocks, _) = front.as_chunks::<64>();
     let mut words = first_state();
     absorb_blocks(&mut words, blocks, 0);
-    absorb_last(&mut words, rest, message.len() as u64);
+    absorb_last(&mut words, rest, message.len());
     bytes_of(words)
 }

@@ -1,72 +1,52 @@
 // The rounds of the compression function (RFC 7693, section 3.2).
 ghost use Rattle.std.specs.Prelude.{◌≡◌, ℕ, ◌+◌, ◌<◌, List};
-ghost use Rattle.blake2s.specs.Mixing.{word_of, chosen, columns, diagonals, rounds};
+ghost use Rattle.blake2s.specs.Mixing.{word_of, chosen, G, columns, diagonals, rounds};
 
 use crate::constants::SIGMA;
 use crate::mixing::mix;
+use crate::places::Places;
 
 // The word `i` of a block, least significant byte first.
 fn word(block: &[u8; 64], i: usize) -> u32
     requires { i < 16 }
     ensures { result ≡ word_of block.now i }
 {
-    u32::from_le_bytes([
-        block[4 * i],
-        block[4 * i + 1],
-        block[4 * i + 2],
-        block[4 * i + 3],
-    ])
+    let (words, _) = block.as_chunks::<4>();
+    u32::from_le_bytes(words[i])
 }
+
+// Which round it is stands in the function's type, and a number there has no type that keeps it below 10: so each says it.
 
 // The word of the block that the round `ROUND` takes at the place `j`.
 fn scheduled<const ROUND: usize>(block: &[u8; 64], j: usize) -> u32
     requires { (ROUND < 10) × (j < 16) }
     ensures { result ≡ chosen block.now ROUND j }
 {
-    word(block, SIGMA[ROUND][j] as usize)
+    word(block, usize::from(SIGMA[ROUND][j]))
 }
 
-// The first four of the eight mixings of a round.
+// Mixes the words of the block that the round takes at the places `j` and `j + 1`.
+fn mix_words<const ROUND: usize>(v: &mut [u32; 16], block: &[u8; 64], at: Places, j: usize)
+    requires { (ROUND < 10) × (j + 1 < 16) }
+    ensures { v.new ≡ G v.old at.a at.b at.c at.d (chosen block.now ROUND j) (chosen block.now ROUND (j + 1)) }
+{
+    mix(
+        v,
+        at,
+        scheduled::<ROUND>(block, j),
+        scheduled::<ROUND>(block, j + 1),
+    );
+}
+
+// The first four of the eight mixings of a round, as the standard lists them.
 fn mix_columns<const ROUND: usize>(v: &mut [u32; 16], block: &[u8; 64])
     requires { ROUND < 10 }
     ensures { v.new ≡ columns block.now ROUND v.old }
 {
-    mix(
-        v,
-        0,
-        4,
-        8,
-        12,
-        scheduled::<ROUND>(block, 0),
-        scheduled::<ROUND>(block, 1),
-    );
-    mix(
-        v,
-        1,
-        5,
-        9,
-        13,
-        scheduled::<ROUND>(block, 2),
-        scheduled::<ROUND>(block, 3),
-    );
-    mix(
-        v,
-        2,
-        6,
-        10,
-        14,
-        scheduled::<ROUND>(block, 4),
-        scheduled::<ROUND>(block, 5),
-    );
-    mix(
-        v,
-        3,
-        7,
-        11,
-        15,
-        scheduled::<ROUND>(block, 6),
-        scheduled::<ROUND>(block, 7),
-    );
+    mix_words::<ROUND>(v, block, Places::new(0, 4, 8, 12), 0);
+    mix_words::<ROUND>(v, block, Places::new(1, 5, 9, 13), 2);
+    mix_words::<ROUND>(v, block, Places::new(2, 6, 10, 14), 4);
+    mix_words::<ROUND>(v, block, Places::new(3, 7, 11, 15), 6);
 }
 
 // The last four.
@@ -74,42 +54,10 @@ fn mix_diagonals<const ROUND: usize>(v: &mut [u32; 16], block: &[u8; 64])
     requires { ROUND < 10 }
     ensures { v.new ≡ diagonals block.now ROUND v.old }
 {
-    mix(
-        v,
-        0,
-        5,
-        10,
-        15,
-        scheduled::<ROUND>(block, 8),
-        scheduled::<ROUND>(block, 9),
-    );
-    mix(
-        v,
-        1,
-        6,
-        11,
-        12,
-        scheduled::<ROUND>(block, 10),
-        scheduled::<ROUND>(block, 11),
-    );
-    mix(
-        v,
-        2,
-        7,
-        8,
-        13,
-        scheduled::<ROUND>(block, 12),
-        scheduled::<ROUND>(block, 13),
-    );
-    mix(
-        v,
-        3,
-        4,
-        9,
-        14,
-        scheduled::<ROUND>(block, 14),
-        scheduled::<ROUND>(block, 15),
-    );
+    mix_words::<ROUND>(v, block, Places::new(0, 5, 10, 15), 8);
+    mix_words::<ROUND>(v, block, Places::new(1, 6, 11, 12), 10);
+    mix_words::<ROUND>(v, block, Places::new(2, 7, 8, 13), 12);
+    mix_words::<ROUND>(v, block, Places::new(3, 4, 9, 14), 14);
 }
 
 fn round<const ROUND: usize>(v: &mut [u32; 16], block: &[u8; 64])
@@ -120,7 +68,7 @@ fn round<const ROUND: usize>(v: &mut [u32; 16], block: &[u8; 64])
     mix_diagonals::<ROUND>(v, block);
 }
 
-// All of the rounds.
+// All of the rounds. Each is a function of its own, so that the places of its words are known where it is built.
 pub(crate) fn ten_rounds(v: &mut [u32; 16], block: &[u8; 64])
     ensures { v.new ≡ rounds block.now v.old 10 }
 {

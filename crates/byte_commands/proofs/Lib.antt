@@ -1,3 +1,2 @@
 pub mod HexWords
-pub mod Growing
 pub mod Verbs

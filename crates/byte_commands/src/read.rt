@@ -1,5 +1,5 @@
 //! Reading a command line that carries bytes.
-ghost use Rattle.std.specs.Prelude.{◌≡◌, ◌∷◌};
+ghost use Rattle.std.specs.Prelude.{◌≡◌, ◌∷◌, drop};
 ghost use Rattle.std.specs.Option.{option_map};
 ghost use Rattle.script.specs.Words.{words_of};
 ghost use Rattle.byte_commands.specs.Asked.{asked};
@@ -7,13 +7,14 @@ ghost use Rattle.byte_commands.specs.Read.{first_hex, read_byte_command, read_di
 
 use crate::command::ByteCommand;
 use hex_text::decode::decoded_length;
+use script::hash_named;
 use script::read::LONGEST_LINE;
 use script::words::Words;
-use script::{hash_named, same};
 
 /// The next word, if it is hex.
-fn hex_word<'a>(words: &mut Words<'a>) -> Option<&'a [u8]>
-    ensures { option_map (λ w. (w.now, words_of words.new.rest.now)) result ≡ first_hex (words_of words.old.rest.now) }
+pub fn hex_word<'a>(words: &mut Words<'a>) -> Option<&'a [u8]>
+    ensures word { option_map (λ w. (w.now, words_of words.new.rest.now)) result ≡ first_hex (words_of words.old.rest.now) }
+    ensures rest { words_of words.new.rest.now ≡ drop 1 (words_of words.old.rest.now) }
 {
     let word = words.next()?;
     decoded_length(word)?;
@@ -38,9 +39,8 @@ pub fn read_byte_command(line: &[u8]) -> Option<ByteCommand<'_>>
     }
     let mut words = Words::new(line);
     let verb = words.next()?;
-    if same(verb, b"digest") {
-        read_digest(&mut words)
-    } else {
-        None
+    match verb {
+        b"digest" => read_digest(&mut words),
+        _ => None,
     }
 }

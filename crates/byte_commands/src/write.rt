@@ -4,13 +4,14 @@ ghost use Rattle.script.specs.Lines.{ended};
 ghost use Rattle.byte_commands.specs.Lines.{line_of_digest};
 
 use hex_text::encode::encode;
-use script::write::finish_line;
+use script::append::append_text;
+use script::write::write_line;
 use std::alloc::AllocError;
 
 fn append_digest(out: &mut Vec<u8>, digest: &[u8; 32]) -> Result<(), AllocError>
     ensures { Grown out.old (line_of_digest digest.now) result out.new }
 {
-    out.extend_from_slice(b"digest ")?;
+    append_text(out, b"digest ")?;
     encode(digest, out)
 }
 
@@ -18,7 +19,5 @@ fn append_digest(out: &mut Vec<u8>, digest: &[u8; 32]) -> Result<(), AllocError>
 pub fn write_digest(out: &mut Vec<u8>, digest: &[u8; 32]) -> Result<(), AllocError>
     ensures { Appended out.old (ended (line_of_digest digest.now)) result out.new }
 {
-    let start = out.len();
-    let written = append_digest(out, digest);
-    finish_line(out, start, written)
+    write_line(out, |out| append_digest(out, digest))
 }

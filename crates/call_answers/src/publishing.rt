@@ -37,15 +37,8 @@ pub fn answer_publish<H: Hash, C: DrawnChart>(
 fn fresh_sheet(heap: Global, room: usize) -> Result<Vec<SheetRecord>, AllocError>
     ensures { IfOk result (λ sheet. sheet.items ≡ fresh_sheet room) }
 {
-    vec![in heap; ZERO_RECORD; room]
+    vec![in heap; SheetRecord::ZERO; room]
 }
-
-const ZERO_RECORD: SheetRecord = SheetRecord {
-    kind: 0,
-    numbers: [0; 4],
-    successors: [0; 3],
-    digest: [0; 32],
-};
 
 /// Of a published sheet the counted records are kept.
 fn keep_published(
@@ -58,10 +51,12 @@ fn keep_published(
     ensures kept { OnOk result (map vec_items kept.new.items ≡ map vec_items kept.old.items ++ take count sheet.items ∷ []) }
 {
     sheet.truncate(count);
-    match root_of(&sheet, count) {
-        Some(root) => write_published(out, count, &root)?,
-        None => write_published(out, count, &[])?,
-    }
+    let root = root_of(&sheet, count);
+    write_published(
+        out,
+        count,
+        root.as_ref().map_or(&[], |root| root.as_slice()),
+    )?;
     kept.push(sheet)?;
     Ok(())
 }

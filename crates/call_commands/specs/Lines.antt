@@ -2,10 +2,8 @@
 use Rattle.std.specs.Prelude.{ℕ, List, ◌∷◌, ◌++◌, pos, codes, decimal}
 use Rattle.std.specs.List.{flat_map}
 use Rattle.refusal.specs.Table.{words_of}
-use Rattle.fault.specs.declared.layers.Layer.{Layer}
-use Rattle.fault.specs.declared.layers.Layer.TheVariants.{Reader, Hash, Search, Answer}
 use Rattle.fault.specs.declared.report.Fault.{Fault}
-use Rattle.fault.specs.Layers.{fault_number, layer_of, refusal_of}
+use Rattle.fault.specs.Layers.{fault_number, layer_of, name_of_layer, refusal_of}
 use Rattle.calls.specs.declared.outcomes.Checked.{Checked}
 use Rattle.calls.specs.declared.outcomes.Comparison.{Comparison}
 use Rattle.calls.specs.declared.outcomes.Comparison.TheVariants.{Same, Difference, Clash}
@@ -44,12 +42,6 @@ counts_of checked = counted (codes " by") checked.strings ++ bytes_counted check
 
 abbrev pub line_of_checked : ChartKind → List ℕ → Checked → List ℕ
 line_of_checked kind numbers checked = line_of_numbers kind numbers ++ counts_of checked
-
-abbrev pub name_of_layer : Layer → List ℕ
-name_of_layer Reader = codes "reader"
-name_of_layer Hash = codes "hash"
-name_of_layer Search = codes "search"
-name_of_layer Answer = codes "answer"
 
 -- refused 15 (hash) at step 2, byte 72: and the reason
 abbrev pub place_and_reason : Fault → List ℕ

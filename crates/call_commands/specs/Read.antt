@@ -2,34 +2,16 @@
 use Rattle.std.specs.Prelude.{ℕ, cond, List, [], ◌∷◌, length, pos, Some, None, codes, Option, nat_lt, unsigned_abs}
 use Rattle.std.specs.Option.{option_map}
 use Rattle.std.specs.Str.{bytes_eq}
-use Rattle.records.specs.declared.raw.Point.{Point}
-use Rattle.records.specs.declared.raw.Rectangle.{Rectangle}
 use Rattle.records.specs.Range.{within}
 use Rattle.script.specs.declared.command.ChartKind.{ChartKind}
 use Rattle.script.specs.declared.command.ChartKind.TheVariants.{Zone, Site}
 use Rattle.script.specs.Number.{and_then, number_of}
 use Rattle.script.specs.Words.{words_of}
-use Rattle.script.specs.Fields.{with_number, at_end}
+use Rattle.script.specs.Fields.{at_end, first_point, first_rectangle}
 use Rattle.byte_commands.specs.Read.{with_hex}
 use Rattle.call_commands.specs.declared.command.Question.{Question}
 use Rattle.call_commands.specs.declared.command.Question.TheVariants.{At, Within}
 use Rattle.call_commands.specs.Asked.{Asked, publish, adopt_latest, adopt_nth, adopt_root, prove, check, cross_check, ask}
-
--- X Y, and the words after them
-abbrev pub first_point : List (List ℕ) → Option (Point × List (List ℕ))
-first_point words =
-    with_number words (λ x after-x.
-    with_number after-x (λ y rest.
-    Some (record { x = x; y = y }, rest)))
-
--- A B C D, and the words after them
-abbrev pub first_rectangle : List (List ℕ) → Option (Rectangle × List (List ℕ))
-first_rectangle words =
-    with_number words (λ a after-a.
-    with_number after-a (λ b after-b.
-    with_number after-b (λ c after-c.
-    with_number after-c (λ d rest.
-    Some (record { west = a; east = b; south = c; north = d }, rest)))))
 
 abbrev pub first_question : ChartKind → List (List ℕ) → Option (Question × List (List ℕ))
 first_question Zone words = option_map (λ p. (At p.0, p.1)) (first_point words)
@@ -58,13 +40,19 @@ abbrev pub read_publish : List (List ℕ) → Option Asked
 read_publish [] = Some (publish 8192)
 read_publish (word ∷ rest) = and_then (count_in 65536 word) (λ room. at_end rest (publish room))
 
+abbrev pub read_root : List (List ℕ) → Option Asked
+read_root words = with_hex words (λ root after. at_end after (adopt_root root))
+
+abbrev pub read_nth : List ℕ → List (List ℕ) → Option Asked
+read_nth word rest = and_then (number_of word) (λ n. at_end rest (adopt_nth n))
+
 -- adopt, adopt K, adopt root HEX
 abbrev pub read_adopt : List (List ℕ) → Option Asked
 read_adopt [] = Some adopt_latest
 read_adopt (word ∷ rest) =
     cond (bytes_eq word (codes "root"))
-    (with_hex rest (λ root after. at_end after (adopt_root root)))
-    (and_then (number_of word) (λ n. at_end rest (adopt_nth n)))
+    (read_root rest)
+    (read_nth word rest)
 
 -- prove QUESTION, prove QUESTION room N
 abbrev pub read_prove : ChartKind → List (List ℕ) → Option Asked

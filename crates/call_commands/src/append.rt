@@ -1,13 +1,13 @@
-//! The parts of the lines that answer the calls, put at the end of what is written.
-ghost use Rattle.std.specs.Prelude.{◌≡◌, [], ◌++◌};
+//! The texts of the lines that answer the calls, put at the end of what is written.
+ghost use Rattle.std.specs.Prelude.{◌++◌};
 ghost use Rattle.script.specs.Growth.{Grown};
 ghost use Rattle.hex_text.specs.Hex.{hex_of};
-ghost use Rattle.call_commands.specs.Lines.{after_colon, at_record, bytes_counted, counted, counts_of, layer_and_reason, line_of_asked, line_of_checked, line_of_comparison, line_of_fault, line_of_numbers, line_of_published, name_of_layer, place_and_reason, step_and_reason};
+ghost use Rattle.call_commands.specs.Lines.{at_record, counted, line_of_asked, line_of_checked, line_of_comparison, line_of_fault, line_of_numbers, line_of_published};
 
 use calls::outcomes::{Checked, Comparison};
-use fault::{Fault, Layer};
+use fault::Fault;
 use hex_text::encode::encode;
-use script::append::{append_digits, append_each, append_pair, append_sites, append_text};
+use script::append::{append_digits, append_fields, append_pair, append_sites, append_text};
 use script::command::ChartKind;
 use std::alloc::AllocError;
 
@@ -15,16 +15,8 @@ use std::alloc::AllocError;
 fn append_counted(out: &mut Vec<u8>, text: &[u8], count: usize) -> Result<(), AllocError>
     ensures { Grown out.old (counted text.now count) result out.new }
 {
-    append_text(out, text)?;
-    append_number(out, count)
-}
-
-/// A count after a space.
-fn append_number(out: &mut Vec<u8>, count: usize) -> Result<(), AllocError>
-    ensures { Grown out.old (counted [] count) result out.new }
-{
-    append_text(out, b" ")?;
-    append_digits(out, count as u64)
+    append_pair(out, text, b" ")?;
+    append_digits(out, count)
 }
 
 /// A text, and bytes in hex.
@@ -50,9 +42,10 @@ fn append_zone(out: &mut Vec<u8>, numbers: &[u16]) -> Result<(), AllocError>
     ensures { Grown out.old (line_of_numbers ChartKind.Zone numbers.now) result out.new }
 {
     append_text(out, b"zone")?;
-    append_each(out, numbers)
+    append_fields(out, numbers)
 }
 
+// Kind, numbers and counts stay apart: a writer's closure that captures a struct with a lifetime tells its caller nothing.
 fn append_numbers(out: &mut Vec<u8>, kind: ChartKind, numbers: &[u16]) -> Result<(), AllocError>
     ensures { Grown out.old (line_of_numbers kind numbers.now) result out.new }
 {
@@ -60,21 +53,6 @@ fn append_numbers(out: &mut Vec<u8>, kind: ChartKind, numbers: &[u16]) -> Result
         ChartKind::Zone => append_zone(out, numbers),
         ChartKind::Site => append_sites(out, numbers),
     }
-}
-
-/// How many bytes, the last of what is counted.
-fn append_bytes(out: &mut Vec<u8>, bytes: usize) -> Result<(), AllocError>
-    ensures { Grown out.old (bytes_counted bytes) result out.new }
-{
-    append_counted(out, b" strings,", bytes)?;
-    append_text(out, b" bytes")
-}
-
-fn append_counts(out: &mut Vec<u8>, checked: Checked) -> Result<(), AllocError>
-    ensures { Grown out.old (counts_of checked) result out.new }
-{
-    append_counted(out, b" by", checked.strings)?;
-    append_bytes(out, checked.bytes)
 }
 
 pub(crate) fn append_checked(
@@ -86,46 +64,19 @@ pub(crate) fn append_checked(
     ensures { Grown out.old (line_of_checked kind numbers.now checked) result out.new }
 {
     append_numbers(out, kind, numbers)?;
-    append_counts(out, checked)
-}
-
-fn layer_name(layer: Layer) -> &'static str
-    ensures { result.now ≡ name_of_layer layer }
-{
-    match layer {
-        Layer::Reader => "reader",
-        Layer::Hash => "hash",
-        Layer::Search => "search",
-        Layer::Answer => "answer",
-    }
-}
-
-fn append_place(out: &mut Vec<u8>, fault: Fault) -> Result<(), AllocError>
-    ensures { Grown out.old (place_and_reason fault) result out.new }
-{
-    append_counted(out, b", byte", fault.place())?;
-    append_pair(out, b": ", fault.refusal().words().as_bytes())
-}
-
-fn append_step(out: &mut Vec<u8>, fault: Fault) -> Result<(), AllocError>
-    ensures { Grown out.old (step_and_reason fault) result out.new }
-{
-    append_counted(out, b") at step", fault.step())?;
-    append_place(out, fault)
-}
-
-fn append_layer(out: &mut Vec<u8>, fault: Fault) -> Result<(), AllocError>
-    ensures { Grown out.old (layer_and_reason fault) result out.new }
-{
-    append_pair(out, b" (", layer_name(fault.layer()).as_bytes())?;
-    append_step(out, fault)
+    append_counted(out, b" by", checked.strings)?;
+    append_counted(out, b" strings,", checked.bytes)?;
+    append_text(out, b" bytes")
 }
 
 pub(crate) fn append_fault(out: &mut Vec<u8>, fault: Fault) -> Result<(), AllocError>
     ensures { Grown out.old (line_of_fault fault) result out.new }
 {
     append_counted(out, b"refused", usize::from(fault.number()))?;
-    append_layer(out, fault)
+    append_pair(out, b" (", fault.layer().name().as_bytes())?;
+    append_counted(out, b") at step", fault.step())?;
+    append_counted(out, b", byte", fault.place())?;
+    append_pair(out, b": ", fault.refusal().words().as_bytes())
 }
 
 fn append_at_record(
@@ -152,13 +103,6 @@ pub(crate) fn append_comparison(out: &mut Vec<u8>, comparison: Comparison) -> Re
     }
 }
 
-fn append_after_colon(out: &mut Vec<u8>, comparison: Comparison) -> Result<(), AllocError>
-    ensures { Grown out.old (after_colon comparison) result out.new }
-{
-    append_text(out, b": ")?;
-    append_comparison(out, comparison)
-}
-
 pub(crate) fn append_asked(
     out: &mut Vec<u8>,
     kind: ChartKind,
@@ -169,5 +113,6 @@ pub(crate) fn append_asked(
     ensures { Grown out.old (line_of_asked kind numbers.now checked comparison) result out.new }
 {
     append_checked(out, kind, numbers, checked)?;
-    append_after_colon(out, comparison)
+    append_text(out, b": ")?;
+    append_comparison(out, comparison)
 }

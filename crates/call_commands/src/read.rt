@@ -2,72 +2,35 @@
 ghost use Rattle.std.specs.Prelude.{◌≡◌, ◌∷◌};
 ghost use Rattle.std.specs.Option.{option_map};
 ghost use Rattle.script.specs.Words.{words_of};
-ghost use Rattle.byte_commands.specs.Read.{first_hex};
 ghost use Rattle.call_commands.specs.Asked.{asked};
-ghost use Rattle.call_commands.specs.Read.{count_in, first_point, first_question, first_rectangle, last_count, read_adopt, read_ask, read_call_command, read_call_words, read_check, read_cross_check, read_prove, read_publish, room_of};
+ghost use Rattle.call_commands.specs.Read.{count_in, first_question, last_count, read_adopt, read_ask, read_call_command, read_call_words, read_check, read_cross_check, read_nth, read_prove, read_publish, read_root, room_of};
 
 use crate::command::{CallCommand, Question};
-use hex_text::decode::decoded_length;
-use records::raw::{Point, Rectangle};
+use byte_commands::read::hex_word;
 use script::command::ChartKind;
 use script::read::LONGEST_LINE;
 use script::words::Words;
 use script::{read_number, same};
 
-/// The next word, if it is hex.
-fn hex_word<'a>(words: &mut Words<'a>) -> Option<&'a [u8]>
-    ensures { option_map (λ w. (w.now, words_of words.new.rest.now)) result ≡ first_hex (words_of words.old.rest.now) }
-{
-    let word = words.next()?;
-    decoded_length(word)?;
-    Some(word)
-}
-
-fn read_point(words: &mut Words) -> Option<Point>
-    ensures { option_map (λ p. (p, words_of words.new.rest.now)) result ≡ first_point (words_of words.old.rest.now) }
-{
-    let x = words.number()?;
-    let y = words.number()?;
-    Some(Point { x, y })
-}
-
-fn read_rectangle(words: &mut Words) -> Option<Rectangle>
-    ensures { option_map (λ q. (q, words_of words.new.rest.now)) result ≡ first_rectangle (words_of words.old.rest.now) }
-{
-    let west = words.number()?;
-    let east = words.number()?;
-    let south = words.number()?;
-    let north = words.number()?;
-    Some(Rectangle {
-        west,
-        east,
-        south,
-        north,
-    })
-}
-
 fn read_question(kind: ChartKind, words: &mut Words) -> Option<Question>
     ensures { option_map (λ q. (q, words_of words.new.rest.now)) result ≡ first_question kind (words_of words.old.rest.now) }
 {
     match kind {
-        ChartKind::Zone => Some(Question::At(read_point(words)?)),
-        ChartKind::Site => Some(Question::Within(read_rectangle(words)?)),
+        ChartKind::Zone => Some(Question::At(words.point()?)),
+        ChartKind::Site => Some(Question::Within(words.rectangle()?)),
     }
 }
 
 /// A number from 0 to `most`.
-fn count_in(word: &[u8], most: u32) -> Option<usize>
+fn count_in(word: &[u8], most: usize) -> Option<usize>
     ensures { result ≡ count_in most word.now }
 {
-    let count = read_number(word)?;
-    if count < 0 || count > i64::from(most) {
-        return None;
-    }
-    Some(count as usize)
+    let count = usize::try_from(read_number(word)?).ok()?;
+    (count <= most).then_some(count)
 }
 
 /// The last word as such a number.
-fn read_count(words: &mut Words, most: u32) -> Option<usize>
+fn read_count(words: &mut Words, most: usize) -> Option<usize>
     ensures { result ≡ last_count most (words_of words.old.rest.now) }
 {
     let count = count_in(words.next()?, most)?;
@@ -76,16 +39,13 @@ fn read_count(words: &mut Words, most: u32) -> Option<usize>
 }
 
 /// The room that is asked for, or the usual one.
-fn read_room(words: &mut Words, usual: usize, most: u32) -> Option<usize>
+fn read_room(words: &mut Words, usual: usize, most: usize) -> Option<usize>
     ensures { result ≡ room_of usual most (words_of words.old.rest.now) }
 {
-    let Some(word) = words.next() else {
-        return Some(usual);
-    };
-    if same(word, b"room") {
-        read_count(words, most)
-    } else {
-        None
+    match words.next() {
+        None => Some(usual),
+        Some(b"room") => read_count(words, most),
+        Some(_) => None,
     }
 }
 
@@ -103,19 +63,30 @@ fn read_publish<'a>(words: &mut Words<'a>) -> Option<CallCommand<'a>>
 fn read_adopt<'a>(words: &mut Words<'a>) -> Option<CallCommand<'a>>
     ensures { option_map asked result ≡ read_adopt (words_of words.old.rest.now) }
 {
-    let Some(word) = words.next() else {
-        return Some(CallCommand::AdoptLatest);
-    };
-    if same(word, b"root") {
-        let root = hex_word(words)?;
-        words.end()?;
-        return Some(CallCommand::AdoptRoot { root });
+    match words.next() {
+        None => Some(CallCommand::AdoptLatest),
+        Some(b"root") => read_root(words),
+        Some(word) => read_nth(word, words),
     }
+}
+
+fn read_root<'a>(words: &mut Words<'a>) -> Option<CallCommand<'a>>
+    ensures { option_map asked result ≡ read_root (words_of words.old.rest.now) }
+{
+    let root = hex_word(words)?;
+    words.end()?;
+    Some(CallCommand::AdoptRoot { root })
+}
+
+fn read_nth<'a>(word: &[u8], words: &mut Words<'a>) -> Option<CallCommand<'a>>
+    ensures { option_map asked result ≡ read_nth word.now (words_of words.old.rest.now) }
+{
     let number = read_number(word)?;
     words.end()?;
     Some(CallCommand::AdoptNth(number))
 }
 
+// Kind and words stay two: publish and adopt read words of either kind alike.
 fn read_prove<'a>(kind: ChartKind, words: &mut Words<'a>) -> Option<CallCommand<'a>>
     ensures { option_map asked result ≡ read_prove kind (words_of words.old.rest.now) }
 {
@@ -157,6 +128,7 @@ fn read_ask<'a>(kind: ChartKind, words: &mut Words<'a>) -> Option<CallCommand<'a
 fn read_after<'a>(verb: &[u8], kind: ChartKind, words: &mut Words<'a>) -> Option<CallCommand<'a>>
     ensures { option_map asked result ≡ read_call_words kind (verb.now ∷ words_of words.old.rest.now) }
 {
+    // With patterns the last arm has some forty ways to miss them, b"cross-check" being long, and its proof stays open.
     if same(verb, b"publish") {
         read_publish(words)
     } else if same(verb, b"adopt") {

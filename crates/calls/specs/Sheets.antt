@@ -1,6 +1,6 @@
 -- The nodes and digests that the records of any sheet show, whoever wrote them.
-use Rattle.std.specs.Prelude.{ℕ, Bool, true, ◌&&◌, List, [], ◌∷◌, map, take, is_some, Some, None, Ok, Option, Result, nat_le, nat_lt}
-use Rattle.std.specs.List.{slice_get}
+use Rattle.std.specs.Prelude.{ℕ, Bool, ◌&&◌, List, map, take, is_some, Some, None, Ok, Option, Result, nat_le, nat_lt}
+use Rattle.std.specs.List.{slice_get, list_all}
 use Rattle.refusal.specs.declared.Refusal.{Refusal}
 use Rattle.refusal.specs.declared.Refusal.TheVariants.{SheetUnsound}
 use Rattle.node.specs.declared.shape.Shape.{Shape}
@@ -26,20 +26,26 @@ node_in judging r =
       successors = take (or_bare (judging.shape_of r.kind)).successors r.successors;
     }
 
--- The nodes of the counted records, and the digests stored in them.
+-- The nodes of records, and the digests stored in them.
+abbrev pub nodes_of : {Q : Type 0} → Judging Q → List SheetRecord → List Node
+nodes_of judging records = map (node_in judging) records
+
+abbrev pub stored_digests : List SheetRecord → List (List ℕ)
+stored_digests records = map (λ r. r.digest) records
+
+-- Those of the counted records.
 abbrev pub nodes_in : {Q : Type 0} → Judging Q → List SheetRecord → ℕ → List Node
-nodes_in judging sheet count = map (node_in judging) (take count sheet)
+nodes_in judging sheet count = nodes_of judging (take count sheet)
 
 abbrev pub digests_on : List SheetRecord → ℕ → List (List ℕ)
-digests_on sheet count = map (λ r. r.digest) (take count sheet)
+digests_on sheet count = stored_digests (take count sheet)
 
 -- A count is sound if it is not 0 and no more than the usable records. The root stands at the last counted record.
 abbrev pub is_count : List SheetRecord → ℕ → Bool
 is_count sheet count = nat_lt 0 count && nat_le count (usable sheet)
 
 abbrev pub all_before : ℕ → List ℕ → Bool
-all_before place [] = true
-all_before place (successor ∷ successors) = nat_lt successor place && all_before place successors
+all_before place successors = list_all (λ successor. nat_lt successor place) successors
 
 -- A node is sound at a place if its kind is known, its numbers are fit, and every successor stands before it.
 abbrev pub is_sound : {Q : Type 0} → Judging Q → ℕ → Node → Bool

@@ -14,6 +14,7 @@ fn main(rt: HostRuntime) -> io::Result<()> {
     let mut session = Session::new();
     let mut line = Vec::new(heap);
     let mut replies = Vec::new(heap);
+    // Every loop has to end, and no input has so many lines.
     for _ in 0..u64::MAX {
         line.clear();
         if input.read_until(b'\n', &mut line)? == 0 {

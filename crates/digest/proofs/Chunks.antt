@@ -1,7 +1,7 @@
 -- A list as blocks of n elements in a row.
 use Rattle.std.proofs.Common.{◌≡◌, ℕ, zero, suc, ◌+◌, ◌*◌, ◌<◌, List, [], ◌∷◌, ◌++◌, get_or, take, drop, sym, refl, ap, ◌∙◌, add_comm, mul-zero, mul-suc, arith}
 use Rattle.std.specs.Simd.{first_chunks}
-use Rattle.std.proofs.lemmas.List.{append_assoc, drop-drop, drop-take, take-append-drop, take-take}
+use Rattle.std.proofs.lemmas.List.{append_assoc, drop-drop, drop-take, get_or-drop, get_or-take, take-append-drop, take-take}
 
 -- The block i.
 pub get_or_chunked : (n k : ℕ) (xs : List ℕ) (i : ℕ) → i < k → get_or (first_chunks n k xs) i [] ≡ take n (drop (n * i) xs)
@@ -10,6 +10,12 @@ get_or_chunked n (suc k) xs zero within = ap (λ (j : ℕ). take n (drop j xs)) 
 get_or_chunked n (suc k) xs (suc i) within =
     get_or_chunked n k (drop n xs) i (omega arith) ∙ ap (take n) (drop-drop (n * i) n xs) ∙
     ap (λ (j : ℕ). take n (drop j xs)) (add_comm n (n * i) ∙ sym (mul-suc n i))
+
+-- The byte i of the word t, where a word has four bytes.
+pub byte_of_word : (k : ℕ) (xs : List ℕ) (t i : ℕ) → t < k → i < 4 → get_or (get_or (first_chunks 4 k xs) t []) i 0 ≡ get_or xs (4 * t + i) 0
+byte_of_word k xs t i within small =
+    ap (λ (ys : List ℕ). get_or ys i 0) (get_or_chunked 4 k xs t within) ∙ get_or-take 4 (drop (4 * t) xs) i 0 small ∙
+    get_or-drop (4 * t) xs i 0
 
 -- The first k blocks of as many elements as they have.
 pub chunked_take : (n k : ℕ) (xs : List ℕ) → first_chunks n k (take (n * k) xs) ≡ first_chunks n k xs

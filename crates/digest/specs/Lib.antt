@@ -1,1 +1,2 @@
 pub mod Hashing
+pub mod Parts

@@ -5,6 +5,11 @@
 ghost use Rattle.std.specs.Prelude.{◌≡◌, ℕ, ◌<◌, List, length, slice_index};
 ghost use Rattle.digest.specs.Hashing.{hashed};
 
+mod length;
+mod parts;
+
+pub use length::check_length;
+pub use parts::HashInParts;
 use refusal::Refusal;
 
 pub trait Hash {

@@ -1,7 +1,7 @@
 -- A fault carried up whole: the lower layer's error with the step and the byte place that it concerns.
 use Rattle.std.specs.Prelude.{ℕ, Ok, Err, Result}
 use Rattle.reader.specs.declared.fault.ReaderFault.{ReaderFault}
-use Rattle.reader.specs.declared.fault.ReaderFault.TheVariants as reader
+use Rattle.reader.specs.Faults.{place_of}
 use Rattle.fault.specs.declared.layers.HashFault.{HashFault}
 use Rattle.fault.specs.declared.layers.SearchFault.{SearchFault}
 use Rattle.fault.specs.declared.layers.AnswerFault.{AnswerFault}
@@ -10,13 +10,6 @@ use Rattle.fault.specs.declared.report.Cause.TheVariants as cause
 use Rattle.fault.specs.declared.report.Fault.{Fault}
 use Rattle.fault.specs.declared.stamps.AtStep.{AtStep}
 use Rattle.fault.specs.declared.stamps.AtString.{AtString}
-
--- The byte place that a reader's fault knows; of a proof that is too long, byte 0.
-abbrev pub place_of : ReaderFault → ℕ
-place_of reader.ProofTooLong = 0
-place_of (reader.KindCutShort begins) = begins
-place_of (reader.RestCutShort begins) = begins
-place_of (reader.BytesLeftOver first) = first
 
 abbrev pub fault_at : ℕ → ℕ → Cause → Fault
 fault_at step place c = record { cause = c; step = step; place = place }

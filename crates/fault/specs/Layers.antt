@@ -1,5 +1,5 @@
 -- The refusal and the layer of each case of a fault.
-use Rattle.std.specs.Prelude.{ℕ, List, [], ◌∷◌}
+use Rattle.std.specs.Prelude.{ℕ, List, [], ◌∷◌, codes}
 use Rattle.std.specs.List.{ContainsAt}
 use Rattle.refusal.specs.Table.{number_of}
 use Rattle.refusal.specs.declared.Refusal.{Refusal}
@@ -55,6 +55,13 @@ layer_of (cause.Reader e) = layer.Reader
 layer_of (cause.Hash e) = layer.Hash
 layer_of (cause.Search e) = layer.Search
 layer_of (cause.Answer e) = layer.Answer
+
+-- The name of a layer, as it is printed.
+abbrev pub name_of_layer : Layer → List ℕ
+name_of_layer layer.Reader = codes "reader"
+name_of_layer layer.Hash = codes "hash"
+name_of_layer layer.Search = codes "search"
+name_of_layer layer.Answer = codes "answer"
 
 -- The numbers of each layer. A hash's own refusal, 20, is none of them.
 abbrev pub numbers_of : Layer → List ℕ

@@ -1,7 +1,7 @@
 //! What the question mark turns an error of a layer into.
 
 ghost use Rattle.std.specs.Prelude.{◌≡◌};
-ghost use Rattle.fault.specs.Carrying.{from_answer_at_string, from_hash_at_string, from_reader, from_reader_at_step, from_search, from_search_at_string, place_of};
+ghost use Rattle.fault.specs.Carrying.{from_answer_at_string, from_hash_at_string, from_reader, from_reader_at_step, from_search, from_search_at_string};
 
 use crate::layers::{AnswerFault, HashFault, SearchFault};
 use crate::report::{Cause, Fault};
@@ -12,7 +12,7 @@ impl From<ReaderFault> for Fault {
     ghost from_gives = { λ e f. f ≡ from_reader e };
 
     fn from(e: ReaderFault) -> Fault {
-        Fault::at(Cause::Reader(e), 0, place_of(e))
+        Fault::at(Cause::Reader(e), 0, e.place())
     }
 }
 
@@ -28,10 +28,11 @@ impl From<AtStep<ReaderFault>> for Fault {
     ghost from_gives = { λ e f. f ≡ from_reader_at_step e };
 
     fn from(e: AtStep<ReaderFault>) -> Fault {
-        Fault::at(Cause::Reader(e.fault), e.step, place_of(e.fault))
+        Fault::at(Cause::Reader(e.fault), e.step, e.fault.place())
     }
 }
 
+// One impl for whatever layer would need an impl for each of them again, to make its cause.
 impl From<AtString<HashFault>> for Fault {
     ghost from_gives = { λ e f. f ≡ from_hash_at_string e };
 
@@ -53,16 +54,5 @@ impl From<AtString<AnswerFault>> for Fault {
 
     fn from(e: AtString<AnswerFault>) -> Fault {
         Fault::at(Cause::Answer(e.fault), e.step, e.begins)
-    }
-}
-
-fn place_of(e: ReaderFault) -> usize
-    ensures { result ≡ place_of e }
-{
-    match e {
-        ReaderFault::ProofTooLong => 0,
-        ReaderFault::KindCutShort(begins) => begins,
-        ReaderFault::RestCutShort(begins) => begins,
-        ReaderFault::BytesLeftOver(first) => first,
     }
 }

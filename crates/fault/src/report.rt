@@ -9,7 +9,7 @@ use reader::ReaderFault;
 use refusal::Refusal;
 
 /// The error of the layer that refused.
-#[derive(Clone, Copy)]
+#[derive(Clone, Copy, Debug, PartialEq, Eq)]
 pub enum Cause {
     Reader(ReaderFault),
     Hash(HashFault),
@@ -19,7 +19,7 @@ pub enum Cause {
 
 /// That error, the step, and the byte place. Steps count the strings from 1; before the first
 /// string, step and place are 0.
-#[derive(Clone, Copy)]
+#[derive(Clone, Copy, Debug, PartialEq, Eq)]
 pub struct Fault {
     cause: Cause,
     step: usize,
@@ -45,8 +45,9 @@ impl Fault {
     {
         match self.cause {
             Cause::Reader(ReaderFault::ProofTooLong) => Refusal::ProofTooLong,
-            Cause::Reader(ReaderFault::KindCutShort(_)) => Refusal::StringCutShort,
-            Cause::Reader(ReaderFault::RestCutShort(_)) => Refusal::StringCutShort,
+            Cause::Reader(ReaderFault::KindCutShort(_) | ReaderFault::RestCutShort(_)) => {
+                Refusal::StringCutShort
+            }
             Cause::Reader(ReaderFault::BytesLeftOver(_)) => Refusal::BytesLeftOver,
             Cause::Hash(HashFault::DigestMismatch) => Refusal::DigestMismatch,
             Cause::Search(SearchFault::QuestionOutOfBounds) => Refusal::QuestionOutOfBounds,
@@ -61,7 +62,7 @@ impl Fault {
     pub fn number(self) -> u8
         ensures { result ≡ fault_number self.cause }
     {
-        self.refusal().number()
+        u8::from(self.refusal())
     }
 
     pub fn layer(self) -> Layer

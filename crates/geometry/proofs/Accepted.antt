@@ -1,6 +1,6 @@
 -- Which raw records become edges.
-use Rattle.std.proofs.Common.{◌≡◌, Bool, true, false, cond, ℤ, ◌<ℤ◌, Some, None, Option, sym, refl, ap, ◌∙◌, subst, arith, w32, w64, SFits, to_z, of_z}
-use lib.Signed.{lt_z, le_z}
+use Rattle.std.proofs.Common.{◌≡◌, Bool, true, false, cond, ℤ, ◌<ℤ◌, Some, None, Option, sym, refl, ap, ◌∙◌, subst, arith, w64, SFits, to_z, of_z}
+use lib.Signed.{lt_z}
 use Rattle.std.specs.Option.{option_map}
 use Rattle.std.proofs.lemmas.Int.{ints, to_z-of_z}
 use Rattle.std.proofs.lemmas.Bool.{and_parts, and_from, cond-false, cond-true}
@@ -64,21 +64,6 @@ refused raw r none fails =
 -- One that passes them all becomes the edge with its fields.
 pub accepted : (raw read : EdgeRecord) → read ≡ raw → Passed raw → Some read ≡ cond (is_edge raw) (Some raw) None
 accepted raw read same passes-all = ap Some same ∙ sym (cond-true (is_edge raw) (Some raw) None (passes raw passes-all))
-
--- The test of the two ends, as the code reads them again.
-ends_test : (a b v u : ℤ) → SFits w32 v → SFits w32 u → v ≡ a → u ≡ b → le_z (to_z w32 (of_z w32 u)) (to_z w32 (of_z w32 v)) ≡ le_z b a
-ends_test a b v u fits-v fits-u is-a is_b =
-    ap (λ (t : ℤ). le_z t (to_z w32 (of_z w32 v))) (to_z-of_z w32 u fits-u ∙ is_b) ∙ ap (le_z b) (to_z-of_z w32 v fits-v ∙ is-a)
-
-pub ends_stand : (a b v u : ℤ) → SFits w32 v → SFits w32 u → v ≡ a → u ≡ b → le_z (to_z w32 (of_z w32 u)) (to_z w32 (of_z w32 v)) ≡ false → a <ℤ b
-ends_stand a b v u fits-v fits-u is-a is_b failed =
-    let h : le_z b a ≡ false = sym (ends_test a b v u fits-v fits-u is-a is_b) ∙ failed in
-    omega (arith, ints)
-
-pub ends_fail : (a b v u : ℤ) → SFits w32 v → SFits w32 u → v ≡ a → u ≡ b → le_z (to_z w32 (of_z w32 u)) (to_z w32 (of_z w32 v)) ≡ true → lt_z a b ≡ true → ⊥
-ends_fail a b v u fits-v fits-u is-a is_b passed-test below =
-    let h : le_z b a ≡ true = sym (ends_test a b v u fits-v fits-u is-a is_b) ∙ passed-test in
-    omega (arith, ints)
 
 pub below_test : (a b : ℤ) → a <ℤ b → lt_z a b ≡ true
 below_test a b h = let t : true ≡ lt_z a b = omega (arith, ints) in sym t

@@ -1,4 +1,4 @@
 pub mod Parts
-pub mod Shared
 pub mod Accepted
 pub mod LiesUnder
+pub mod Comparing

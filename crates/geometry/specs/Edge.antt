@@ -1,6 +1,7 @@
 -- Boundary edges: which records are edges, where one covers, its height and its slope.
 use Rattle.std.specs.Prelude.{Bool, ◌&&◌, ◌||◌, ℤ, ◌+ℤ◌, ◌-ℤ◌, ◌*ℤ◌, int_le, int_lt}
 use Rattle.records.specs.declared.raw.EdgeRecord.{EdgeRecord}
+use Rattle.records.specs.declared.raw.Point.{Point}
 use Rattle.records.specs.Range.{is_coordinate, is_record_number, is_zone}
 use Rattle.geometry.specs.Fraction.{Ratio, less, level}
 
@@ -8,6 +9,13 @@ use Rattle.geometry.specs.Fraction.{Ratio, less, level}
 abbrev pub is_edge : EdgeRecord → Bool
 is_edge e =
     is_record_number e.number && is_coordinate e.x1 && is_coordinate e.y1 && is_coordinate e.x2 && is_coordinate e.y2 && is_zone e.zone && int_lt e.x1 e.x2
+
+-- Its ends.
+abbrev pub left_end : EdgeRecord → Point
+left_end e = record { x = e.x1; y = e.y1 }
+
+abbrev pub right_end : EdgeRecord → Point
+right_end e = record { x = e.x2; y = e.y2 }
 
 -- An edge covers x where x1 ≤ x < x2.
 abbrev pub covers : EdgeRecord → ℤ → Bool

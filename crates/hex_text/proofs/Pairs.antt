@@ -1,8 +1,9 @@
 -- Pairs of digits, one after another.
-use Rattle.std.proofs.Common.{◌≡◌, ℕ, zero, suc, ◌+◌, ◌*◌, ◌<◌, ◌≤◌, Bool, true, false, cond, eqb, List, [], ◌∷◌, ◌++◌, length, get_or, take, drop, Some, None, Option, unwrap_or, sym, refl, ap, ◌∙◌, arith}
-use Rattle.std.proofs.lemmas.List.{append_assoc, at_drop_all, at_drop_more, drop_more, take_all, take_more}
+use Rattle.std.proofs.Common.{◌≡◌, ℕ, zero, suc, ◌+◌, ◌*◌, ◌/◌, ◌%◌, ◌<◌, ◌≤◌, Bool, true, false, cond, eqb, List, [], ◌∷◌, ◌++◌, length, get_or, take, drop, Some, None, Option, unwrap_or, sym, refl, ap, ◌∙◌, arith}
+use Rattle.std.proofs.lemmas.List.{append_assoc, at_drop_all, at_drop_more, drop-drop, drop_more, get_or-drop, get_or-take, take_all, take_more}
 use Rattle.std.proofs.lemmas.Bool.{cond-false, ne_eqb}
 use Rattle.std.specs.Option.{option_map, option_zip}
+use Rattle.std.specs.Simd.{first_chunks}
 use Rattle.hex_text.specs.Hex.{bytes_in, bytes_of, pair_value, pairs_of}
 
 abbrev pub before : Option ℕ → Option (List ℕ) → Option (List ℕ)
@@ -14,6 +15,21 @@ pairs_more xs i h =
     at_drop_more pairs_of xs (2 * i) 0 (omega arith)
     ∙ (ap (λ ys. pairs_of (get_or xs (2 * i) 0 ∷ ys)) (drop_more xs (2 * i + 1) 0 h)
     ∙ ap (λ n. before (pair_value (get_or xs (2 * i) 0) (get_or xs (2 * i + 1) 0)) (pairs_of (drop n xs))) next)
+
+-- The digits of a pair, where a text is cut into pairs.
+pair_cut : (k : ℕ) (xs : List ℕ) (i : ℕ) → i < k → get_or (first_chunks 2 k xs) i [] ≡ take 2 (drop (2 * i) xs)
+pair_cut zero xs i h = absurd (omega arith)
+pair_cut (suc k) xs zero h = refl
+pair_cut (suc k) xs (suc i) h =
+    let next : 2 + 2 * i ≡ 2 * suc i = omega arith in
+    pair_cut k (drop 2 xs) i (omega arith) ∙ (ap (take 2) (drop-drop (2 * i) 2 xs) ∙ ap (λ n. take 2 (drop n xs)) next)
+
+pub pair_is : (xs : List ℕ) (pairs : List (List ℕ)) (k i : ℕ) → pairs ≡ first_chunks 2 k xs → i < k → pair_value (get_or (get_or pairs i []) 0 0) (get_or (get_or pairs i []) 1 0) ≡ pair_value (get_or xs (2 * i) 0) (get_or xs (2 * i + 1) 0)
+pair_is xs pairs k i e h =
+    let here : 2 * i + 0 ≡ 2 * i = omega arith in
+    ap (λ p. pair_value (get_or p 0 0) (get_or p 1 0)) (ap (λ ps. get_or ps i []) e ∙ pair_cut k xs i h)
+    ∙ (ap (λ n. pair_value n (get_or (take 2 (drop (2 * i) xs)) 1 0)) (get_or-take 2 (drop (2 * i) xs) 0 0 (omega arith) ∙ get_or-drop (2 * i) xs 0 0 ∙ ap (λ n. get_or xs n 0) here)
+    ∙ ap (λ n. pair_value (get_or xs (2 * i) 0) n) (get_or-take 2 (drop (2 * i) xs) 1 0 (omega arith) ∙ get_or-drop (2 * i) xs 1 0))
 
 -- How many bytes the pairs say.
 abbrev pub counted : List ℕ → Option ℕ
@@ -58,10 +74,10 @@ pairs_odd (c ∷ []) n h = refl
 pairs_odd (a ∷ b ∷ rest) zero h = absurd (omega arith)
 pairs_odd (a ∷ b ∷ rest) (suc n) h = ap (before (pair_value a b)) (pairs_odd rest n (omega arith)) ∙ before_none (pair_value a b)
 
-pub bytes_odd : (xs : List ℕ) (n : ℕ) → length xs ≡ 2 * n + 1 → (length xs ≡ 1 → get_or xs 0 0 ≡ 45 → ⊥) → bytes_of xs ≡ None
-bytes_odd [] n h e = refl
-bytes_odd (c ∷ []) n h e = cond-false _ _ _ (ne_eqb c 45 (e refl))
-bytes_odd (a ∷ b ∷ rest) n h e = pairs_odd (a ∷ b ∷ rest) n h
+pub bytes_none : (xs : List ℕ) → (2 ≤ length xs → length xs % 2 ≡ 1) → (xs ≡ 45 ∷ [] → ⊥) → bytes_of xs ≡ None
+bytes_none [] odd h = refl
+bytes_none (c ∷ []) odd h = cond-false _ _ _ (ne_eqb c 45 (λ e. h (ap (λ d. d ∷ []) e)))
+bytes_none (a ∷ b ∷ rest) odd h = pairs_odd (a ∷ b ∷ rest) (length (a ∷ b ∷ rest) / 2) (omega (arith, odd (omega arith)))
 
 pub bytes_pairs : (xs : List ℕ) → 2 ≤ length xs → bytes_of xs ≡ pairs_of xs
 bytes_pairs [] h = absurd (omega arith)
@@ -126,6 +142,18 @@ none_decoded xs e = go (bytes_of xs) e
     go None h = refl
     go (Some bs) h = absurd (let z : ◌≡◌ {A = ℕ} 0 1 = cc in omega arith)
 
+-- A pair for each byte.
+pub pairs_counted : (xs : List ℕ) (n : ℕ) → Some n ≡ option_map length (bytes_of xs) → length xs / 2 ≡ n
+pairs_counted [] n e = absurd (let z : ◌≡◌ {A = ℕ} 0 1 = cc in omega arith)
+pairs_counted (c ∷ []) n e = go (eqb c 45) e
+  where
+    go : (t : Bool) → Some n ≡ option_map (length {A = ℕ}) (cond t (Some []) None) → 1 / 2 ≡ n
+    go true h = let k : n ≡ 0 = cc in omega (arith, k)
+    go false h = absurd (let z : ◌≡◌ {A = ℕ} 0 1 = cc in omega arith)
+pairs_counted (a ∷ b ∷ rest) n e =
+    let pairs = pairs_length (a ∷ b ∷ rest) (bytes_in (a ∷ b ∷ rest)) (bytes_in_lem (a ∷ b ∷ rest) n e) in
+    omega (arith, pairs, length_bytes_in (a ∷ b ∷ rest) n e)
+
 -- A byte that is decoded has its two digits.
 pairs_say : (xs bs : List ℕ) → bytes_of xs ≡ Some bs → 0 < length bs → pairs_of xs ≡ Some bs
 pairs_say [] bs e h = absurd (let z : ◌≡◌ {A = ℕ} 0 1 = cc in omega arith)
@@ -135,12 +163,6 @@ pairs_say (c ∷ []) bs e h = go (eqb c 45) e
     go true k = let z : bs ≡ [] = cc in absurd (omega (arith, ap length z))
     go false k = absurd (let z : ◌≡◌ {A = ℕ} 0 1 = cc in omega arith)
 pairs_say (a ∷ b ∷ rest) bs e h = e
-
-pub digits_within : (xs : List ℕ) (n i : ℕ) → Some n ≡ option_map length (bytes_of xs) → i < n → 2 * i + 1 < length xs
-digits_within xs n i e h =
-    let long = length_bytes_in xs n e in
-    let pairs = pairs_length xs (bytes_in xs) (pairs_say xs (bytes_in xs) (bytes_in_lem xs n e) (omega arith)) in
-    omega arith
 
 pub byte_at : (xs : List ℕ) (n i : ℕ) → Some n ≡ option_map length (bytes_of xs) → i < n → pair_value (get_or xs (2 * i) 0) (get_or xs (2 * i + 1) 0) ≡ Some (get_or (bytes_in xs) i 0)
 byte_at xs n i e h =

@@ -11,21 +11,22 @@ use std::alloc::AllocError;
 pub fn decoded_length(text: &[u8]) -> Option<usize>
     ensures { result ≡ option_map length (bytes_of text.now) }
 {
-    if text.len() == 1 && text[0] == b'-' {
+    if text == b"-".as_slice() {
         return Some(0);
     }
-    if text.len() == 0 || text.len() % 2 != 0 {
+    let (pairs, rest) = text.as_chunks::<2>();
+    if pairs.is_empty() || !rest.is_empty() {
         return None;
     }
-    let count = text.len() / 2;
-    for i in 0..count {
-        pair_value(text[2 * i], text[2 * i + 1])?;
+    for [high, low] in pairs {
+        pair_value(*high, *low)?;
     }
-    Some(count)
+    Some(pairs.len())
 }
 
 /// Whether a text is hex. Its bytes are then put after what is written; where memory fails,
 /// nothing is, and it fails only where there is not room for them all.
+// The answer is no error: whoever knows that the text is hex may pass over it.
 pub fn decode(text: &[u8], out: &mut Vec<u8>) -> Result<bool, AllocError>
     ensures answer { IfOk result (λ hex. hex ≡ is_some (bytes_of text.now)) }
     ensures items { out.new.items ≡ (if is_ok result then out.old.items ++ bytes_in text.now else out.old.items) }
@@ -36,8 +37,9 @@ pub fn decode(text: &[u8], out: &mut Vec<u8>) -> Result<bool, AllocError>
         return Ok(false);
     };
     out.reserve(count)?;
-    for i in 0..count {
-        match pair_value(text[2 * i], text[2 * i + 1]) {
+    let (pairs, _) = text.as_chunks::<2>();
+    for [high, low] in pairs {
+        match pair_value(*high, *low) {
             Some(byte) => append_byte(out, byte),
             None => unreachable(),
         }

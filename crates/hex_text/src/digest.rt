@@ -13,9 +13,10 @@ pub fn decode_digest(text: &[u8]) -> Option<[u8; 32]>
     if count != 32 {
         return None;
     }
+    let (pairs, _) = text.as_chunks::<2>();
     let mut bytes = [0; 32];
-    for i in 0..count {
-        match pair_value(text[2 * i], text[2 * i + 1]) {
+    for (i, [high, low]) in pairs.iter().enumerate() {
+        match pair_value(*high, *low) {
             Some(byte) => bytes[i] = byte,
             None => unreachable(),
         }

@@ -12,7 +12,7 @@ pub fn encode(bytes: &[u8], out: &mut Vec<u8>) -> Result<(), AllocError>
     ensures succeeds { vec_len out.old + length (hex_of bytes.now) ≤ vec_capacity out.old → is_ok result ≡ true }
     ensures room { vec_capacity out.old ≤ vec_capacity out.new }
 {
-    if bytes.len() == 0 {
+    if bytes.is_empty() {
         return out.extend_from_slice(b"-");
     }
     out.reserve(2 * bytes.len())?;

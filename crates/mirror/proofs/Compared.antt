@@ -1,35 +1,40 @@
 -- What is compared so far, and what is still to compare.
-use Rattle.std.proofs.Common.{◌≡◌, ℕ, suc, ◌+◌, ◌-◌, ◌<◌, ◌≤◌, Bool, true, false, List, [], ◌∷◌, length, drop, Ok, Err, Result, sym, refl, ap, ◌∙◌, arith}
-use Rattle.std.proofs.lemmas.List.{length-take, length-drop}
+use Rattle.std.proofs.Common.{ControlFlow, Continue, Break, ◌≡◌, ℕ, suc, ◌+◌, ◌-◌, ◌<◌, ◌≤◌, Bool, true, false, cond, ltb, leb, List, [], ◌∷◌, length, drop, Ok, Err, Result, sym, refl, ap, ◌∙◌, arith}
+use Rattle.std.proofs.lemmas.List.{length-map, length-take, length-drop}
+use Rattle.std.proofs.lemmas.Bool.{le-leb, lt-leb}
 use Rattle.std.proofs.lemmas.Slice.Eq.{bytes_eq-Decides}
 use Rattle.refusal.specs.declared.Refusal.{Refusal}
+use Rattle.refusal.specs.declared.Refusal.TheVariants.{StackFull}
 use Rattle.reader.specs.Parts.{part}
 use Rattle.reader.specs.Reading.{Position, onward}
+use Rattle.search.specs.declared.sheet.SheetRecord.{SheetRecord}
 use Rattle.search.specs.Node.{Node}
 use Rattle.search.specs.Judging.{Judging}
 use Rattle.search.specs.Figure.{root_of}
-use Rattle.search.specs.Walk.{waiting_after}
+use Rattle.search.specs.Walk.{most_waiting, waiting_after}
 use Rattle.search.specs.Honest.{string_in}
 use Rattle.calls.specs.declared.outcomes.Comparison.{Comparison}
-use Rattle.calls.specs.Chain.{choose}
-use Rattle.calls.specs.Sheets.{sound_at}
+use Rattle.calls.specs.Chain.{choose, guard}
+use Rattle.calls.specs.declared.outcomes.Comparison.TheVariants.{Same, Difference}
+use Rattle.calls.specs.Sheets.{node_in, nodes_of, sound_at}
 use Rattle.calls.specs.Comparing.{compared_from, differs_at, differs_at_end, goes_on_with, past}
-use Rattle.mirror.specs.declared.comparing.NodeCompared.{NodeCompared}
-use Rattle.mirror.specs.declared.comparing.NodeCompared.TheVariants.{GoesOn, Differs}
-use Rattle.mirror.specs.Comparisons.{node_compared, position_at}
+use Rattle.mirror.specs.Comparisons.{node_compared}
+use Rattle.mirror.specs.Positions.{position_at}
 use Rattle.mirror.specs.Steps.{end_of}
-use Rattle.mirror.proofs.Chains.{ok_same, onward_passed}
-use Rattle.mirror.proofs.Pushing.{allowed}
-use Rattle.mirror.proofs.Written.{one_more_turn, string_some}
+use Rattle.calls.proofs.Chains.{ok_same, onward_at, onward_ok}
+use Rattle.calls.proofs.CompareSteps.{compare_end, compare_same}
+use Rattle.calls.proofs.Strings.{string_some}
+use Rattle.mirror.proofs.Written.{one_more_turn}
 
-pub goes_not_differs : (end : ℕ) (d : Comparison) → Differs d ≡ GoesOn end → ⊥
+-- No more wait than may.
+abbrev allowed : List ℕ → Result (Unit {0}) Refusal
+allowed waiting = guard (leb (length waiting) most_waiting) StackFull
+
+pub goes_not_differs : (end : ℕ) (d : Comparison) → ◌≡◌ {A = ControlFlow Comparison ℕ} (Break d) (Continue end) → ⊥
 goes_not_differs end d h = let z : ◌≡◌ {A = ℕ} 0 1 = cc in omega arith
 
-goes_same : (a b : ℕ) → GoesOn a ≡ GoesOn b → a ≡ b
+goes_same : (a b : ℕ) → ◌≡◌ {A = ControlFlow Comparison ℕ} (Continue a) (Continue b) → a ≡ b
 goes_same a b h = cc
-
-differs_same : (a b : Comparison) → Differs a ≡ Differs b → a ≡ b
-differs_same a b h = cc
 
 -- The proof goes on with the string of a sound node, and the ways that it names may wait.
 pub record GoesOnWith {Q : Type 0} (judging : Judging Q) (question : Q) (nodes : List Node) (digests : List (List ℕ)) (place : ℕ) (p : Position) (waiting : List ℕ) (end : ℕ) : Type 0 where
@@ -40,44 +45,35 @@ pub record GoesOnWith {Q : Type 0} (judging : Judging Q) (question : Q) (nodes :
   pub ends : end ≡ end_of digests p.at node
 
 pub went_on : {Q : Type 0} (judging : Judging Q) (hash : List ℕ → List ℕ) (question : Q) (nodes : List Node) (digests : List (List ℕ)) (place : ℕ) (p : Position) (waiting : List ℕ) (end : ℕ)
-    → node_compared judging hash question nodes digests place p waiting ≡ Ok (GoesOn end) → GoesOnWith judging question nodes digests place p waiting end
+    → node_compared judging hash question nodes digests place p waiting ≡ Ok (Continue end) → GoesOnWith judging question nodes digests place p waiting end
 went_on judging hash question nodes digests place p waiting end h =
-    let further : Node → Result NodeCompared Refusal = λ node.
+    let further : Node → Result (ControlFlow Comparison ℕ) Refusal = λ node.
     choose (goes_on_with p (string_in digests node))
-    (λ _. onward (allowed (waiting_after judging question node waiting)) (λ _. Ok (GoesOn (end_of digests p.at node))))
-    (λ _. Ok (Differs (differs_at judging hash place (string_in digests node) p))) in
-    let sound = onward_passed (sound_at judging nodes place) further (GoesOn end) h in
-    go sound.value sound.is (goes_on_with p (string_in digests sound.value)) refl sound.then
+    (λ _. onward (allowed (waiting_after judging question node waiting)) (λ _. Ok (Continue (end_of digests p.at node))))
+    (λ _. Ok (Break (differs_at judging hash place (string_in digests node) p))) in
+    let sound = onward_ok (sound_at judging nodes place) further (Continue end) h in
+    go sound.0 sound.1 (goes_on_with p (string_in digests sound.0)) refl sound.2
   where
     go : (node : Node) → sound_at judging nodes place ≡ Ok node → (b : Bool) → goes_on_with p (string_in digests node) ≡ b
-        → choose b (λ _. onward (allowed (waiting_after judging question node waiting)) (λ _. Ok (GoesOn (end_of digests p.at node)))) (λ _. Ok (Differs (differs_at judging hash place (string_in digests node) p))) ≡ Ok (GoesOn end)
+        → choose b (λ _. onward (allowed (waiting_after judging question node waiting)) (λ _. Ok (Continue (end_of digests p.at node)))) (λ _. Ok (Break (differs_at judging hash place (string_in digests node) p))) ≡ Ok (Continue end)
         → GoesOnWith judging question nodes digests place p waiting end
     go node is true e h =
-        let may = onward_passed (allowed (waiting_after judging question node waiting)) (λ _. Ok (GoesOn (end_of digests p.at node))) (GoesOn end) h in
-        record { node = node; sound = is; same = e; may = may.is; ends = sym (goes_same (end_of digests p.at node) end (ok_same {E = Refusal} _ _ may.then)) }
+        let may = onward_ok (allowed (waiting_after judging question node waiting)) (λ _. Ok (Continue (end_of digests p.at node))) (Continue end) h in
+        record { node = node; sound = is; same = e; may = may.1; ends = sym (goes_same (end_of digests p.at node) end (ok_same {E = Refusal} _ _ may.2)) }
     go node is false e h = absurd (goes_not_differs end _ (ok_same {E = Refusal} _ _ h))
 
 step_on : {Q : Type 0} (judging : Judging Q) (hash : List ℕ → List ℕ) (question : Q) (nodes : List Node) (digests : List (List ℕ)) (turns place : ℕ) (p : Position) (waiting : List ℕ) (end : ℕ)
     → (on : GoesOnWith judging question nodes digests place p waiting end)
     → compared_from judging hash question nodes digests (suc turns) p (place ∷ waiting)
     ≡ compared_from judging hash question nodes digests turns (past p (string_in digests on.node)) (waiting_after judging question on.node waiting)
-unfolding compared_from
 step_on judging hash question nodes digests turns place p waiting end on =
-    let node = on.node in
-    let further : Node → Result Comparison Refusal = λ n.
-    choose (goes_on_with p (string_in digests n))
-    (λ _. onward (allowed (waiting_after judging question n waiting)) (λ _. compared_from judging hash question nodes digests turns (past p (string_in digests n)) (waiting_after judging question n waiting)))
-    (λ _. Ok (differs_at judging hash place (string_in digests n) p)) in
-    ap (λ m. onward m further) on.sound
-    ∙ ap (λ b. choose b
-    (λ _. onward (allowed (waiting_after judging question node waiting)) (λ _. compared_from judging hash question nodes digests turns (past p (string_in digests node)) (waiting_after judging question node waiting)))
-    (λ _. Ok (differs_at judging hash place (string_in digests node) p))) on.same
-    ∙ ap (λ m. onward m (λ _. compared_from judging hash question nodes digests turns (past p (string_in digests node)) (waiting_after judging question node waiting))) on.may
+    compare_same judging hash question nodes digests turns p place waiting on.node on.sound on.same
+    ∙ onward_at (allowed (waiting_after judging question on.node waiting)) tt _ on.may
 
 -- where a node answers, so does the whole
-pub answer_of : Result NodeCompared Refusal → Result Comparison Refusal → Result Comparison Refusal
-answer_of (Ok (GoesOn end)) rest = rest
-answer_of (Ok (Differs d)) rest = Ok d
+pub answer_of : Result (ControlFlow Comparison ℕ) Refusal → Result Comparison Refusal → Result Comparison Refusal
+answer_of (Ok (Continue end)) rest = rest
+answer_of (Ok (Break d)) rest = Ok d
 answer_of (Err e) rest = Err e
 
 step_answer : {Q : Type 0} (judging : Judging Q) (hash : List ℕ → List ℕ) (question : Q) (nodes : List Node) (digests : List (List ℕ)) (turns place : ℕ) (p : Position) (waiting : List ℕ)
@@ -89,26 +85,21 @@ step_answer {Q} judging hash question nodes digests turns place p waiting = at_s
     from n = compared_from judging hash question nodes digests turns (past p (string_in digests n)) (waiting_after judging question n waiting)
 
     at_guard : (n : Node) (m : Result (Unit {0}) Refusal) → (rest : Result Comparison Refusal)
-        × (onward m (λ _. from n) ≡ answer_of (onward m (λ _. Ok (GoesOn (end_of digests p.at n)))) rest)
+        × (onward m (λ _. from n) ≡ answer_of (onward m (λ _. Ok (Continue (end_of digests p.at n)))) rest)
     at_guard n (Ok u) = (from n, refl)
     at_guard n (Err e) = (from n, refl)
 
     at_same : (n : Node) (b : Bool) → (rest : Result Comparison Refusal)
         × (choose b (λ _. onward (allowed (waiting_after judging question n waiting)) (λ _. from n)) (λ _. Ok (differs_at judging hash place (string_in digests n) p))
-        ≡ answer_of (choose b (λ _. onward (allowed (waiting_after judging question n waiting)) (λ _. Ok (GoesOn (end_of digests p.at n)))) (λ _. Ok (Differs (differs_at judging hash place (string_in digests n) p)))) rest)
+        ≡ answer_of (choose b (λ _. onward (allowed (waiting_after judging question n waiting)) (λ _. Ok (Continue (end_of digests p.at n)))) (λ _. Ok (Break (differs_at judging hash place (string_in digests n) p)))) rest)
     at_same n true = at_guard n (allowed (waiting_after judging question n waiting))
     at_same n false = (from n, refl)
 
     at_sound : (m : Result Node Refusal) → (rest : Result Comparison Refusal)
         × (onward m (λ n. choose (goes_on_with p (string_in digests n)) (λ _. onward (allowed (waiting_after judging question n waiting)) (λ _. from n)) (λ _. Ok (differs_at judging hash place (string_in digests n) p)))
-        ≡ answer_of (onward m (λ n. choose (goes_on_with p (string_in digests n)) (λ _. onward (allowed (waiting_after judging question n waiting)) (λ _. Ok (GoesOn (end_of digests p.at n)))) (λ _. Ok (Differs (differs_at judging hash place (string_in digests n) p))))) rest)
+        ≡ answer_of (onward m (λ n. choose (goes_on_with p (string_in digests n)) (λ _. onward (allowed (waiting_after judging question n waiting)) (λ _. Ok (Continue (end_of digests p.at n)))) (λ _. Ok (Break (differs_at judging hash place (string_in digests n) p))))) rest)
     at_sound (Ok n) = at_same n (goes_on_with p (string_in digests n))
     at_sound (Err e) = (Err e, refl)
-
-step_none : {Q : Type 0} (judging : Judging Q) (hash : List ℕ → List ℕ) (question : Q) (nodes : List Node) (digests : List (List ℕ)) (turns : ℕ) (p : Position)
-    → compared_from judging hash question nodes digests (suc turns) p [] ≡ Ok (differs_at_end (root_of nodes) p)
-unfolding compared_from
-step_none judging hash question nodes digests turns p = refl
 
 -- The proof is the same up to a place, and the rest is decided by what waits.
 pub record ComparedSoFar {Q : Type 0} (judging : Judging Q) (hash : List ℕ → List ℕ) (question : Q) (nodes : List Node) (digests : List (List ℕ)) (begun proof waiting : List ℕ) (at : ℕ) : Type 0 where
@@ -139,7 +130,7 @@ pub record Turned {Q : Type 0} (judging : Judging Q) (hash : List ℕ → List �
 
 pub goes_on_lem : {Q : Type 0} (judging : Judging Q) (hash : List ℕ → List ℕ) (question : Q) (nodes : List Node) (digests : List (List ℕ)) (begun proof : List ℕ) (place : ℕ) (all waiting then : List ℕ) (at end : ℕ)
     → ComparedSoFar judging hash question nodes digests begun proof all at → all ≡ place ∷ waiting
-    → node_compared judging hash question nodes digests place (position_at proof at) waiting ≡ Ok (GoesOn end)
+    → node_compared judging hash question nodes digests place (position_at proof at) waiting ≡ Ok (Continue end)
     → ((node : Node) → sound_at judging nodes place ≡ Ok node → then ≡ waiting_after judging question node waiting)
     → Turned judging hash question nodes digests begun proof then at end
 goes_on_lem judging hash question nodes digests begun proof place all waiting then at end so_far top is waits =
@@ -162,7 +153,7 @@ goes_on_lem judging hash question nodes digests begun proof place all waiting th
       later = omega (arith, on.ends, some);
     }
 
-pub answers : {Q : Type 0} (judging : Judging Q) (hash : List ℕ → List ℕ) (question : Q) (nodes : List Node) (digests : List (List ℕ)) (begun proof : List ℕ) (place : ℕ) (all waiting : List ℕ) (at : ℕ) (outcome : Result NodeCompared Refusal) (whole : Result Comparison Refusal)
+pub answers : {Q : Type 0} (judging : Judging Q) (hash : List ℕ → List ℕ) (question : Q) (nodes : List Node) (digests : List (List ℕ)) (begun proof : List ℕ) (place : ℕ) (all waiting : List ℕ) (at : ℕ) (outcome : Result (ControlFlow Comparison ℕ) Refusal) (whole : Result Comparison Refusal)
     → ComparedSoFar judging hash question nodes digests begun proof all at → all ≡ place ∷ waiting
     → outcome ≡ node_compared judging hash question nodes digests place (position_at proof at) waiting
     → ((rest : Result Comparison Refusal) → answer_of outcome rest ≡ whole)
@@ -177,7 +168,7 @@ answers judging hash question nodes digests begun proof place all waiting at out
     ∙ ap (λ o. answer_of o step.0) (sym is)
     ∙ answered step.0)
 
-pub differing : (d : Comparison) (rest : Result Comparison Refusal) → answer_of (Ok (Differs d)) rest ≡ Ok d
+pub differing : (d : Comparison) (rest : Result Comparison Refusal) → answer_of (Ok (Break d)) rest ≡ Ok d
 unfolding answer_of
 differing d rest = refl
 
@@ -193,4 +184,17 @@ ends judging hash question nodes digests begun proof all at so_far top =
     so_far.goes_on
     ∙ ap (λ t. compared_from judging hash question nodes digests t (position_at proof at) all) turn.1
     ∙ ap (λ w. compared_from judging hash question nodes digests (suc turn.0) (position_at proof at) w) top
-    ∙ step_none judging hash question nodes digests turn.0 (position_at proof at)
+    ∙ compare_end judging hash question nodes digests turn.0 (position_at proof at)
+
+-- the root is the last of the counted records
+pub left_over : {Q : Type 0} (judging : Judging Q) (counted : List SheetRecord) (proof : List ℕ) (at : ℕ) → at < length proof
+    → Difference (length counted - 1) at ≡ differs_at_end (root_of (nodes_of judging counted)) (position_at proof at)
+left_over judging counted proof at left =
+    let some : ltb 0 (length proof - at) ≡ true = le-leb 1 (length proof - at) (omega (arith, left)) in
+    sym (λ i. cond (some i) (Difference (length-map counted (node_in judging) i - 1) at) Same)
+
+pub none_left_over : {Q : Type 0} (judging : Judging Q) (counted : List SheetRecord) (proof : List ℕ) (at : ℕ) → length proof ≤ at
+    → Same ≡ differs_at_end (root_of (nodes_of judging counted)) (position_at proof at)
+none_left_over judging counted proof at none =
+    let empty : ltb 0 (length proof - at) ≡ false = lt-leb 1 (length proof - at) (omega (arith, none)) in
+    sym (ap (λ b. cond b (Difference (root_of (nodes_of judging counted)) at) Same) empty)

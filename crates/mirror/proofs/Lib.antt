@@ -1,9 +1,5 @@
 pub mod Chains
-pub mod Pushing
 pub mod Popping
 pub mod Written
-pub mod Taken
-pub mod Whole
 pub mod Compared
-pub mod Differences
-pub mod OneNode
+pub mod Beginning

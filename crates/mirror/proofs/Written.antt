@@ -1,49 +1,27 @@
 -- The strings written so far, and those still to write.
-use Rattle.std.proofs.Common.{◌≡◌, ℕ, zero, suc, ◌+◌, ◌-◌, ◌<◌, ◌≤◌, leb, List, [], ◌∷◌, ◌++◌, length, take, drop, Ok, Err, Result, sym, refl, ap, ◌∙◌, subst, append_assoc, append-nil, arith, length-append}
+use Rattle.std.proofs.Common.{◌≡◌, ℕ, zero, suc, ◌+◌, ◌-◌, ◌<◌, ◌≤◌, List, [], ◌∷◌, ◌++◌, length, take, drop, Ok, Err, Result, sym, refl, ap, ◌∙◌, subst, append_assoc, append-nil, arith, length-append}
 use Rattle.std.proofs.lemmas.List.{take_at, length-take-le}
-use Rattle.std.proofs.lemmas.Bool.{leb-true}
 use Rattle.refusal.specs.declared.Refusal.{Refusal}
-use Rattle.refusal.specs.declared.Refusal.TheVariants.{ProofBufferFull, StackFull}
 use Rattle.node.specs.Writing.{put_at}
 use Rattle.node.proofs.Joining.{joined_append}
 use Rattle.reader.specs.Reading.{onward, map_ok}
 use Rattle.search.specs.Node.{Node}
 use Rattle.search.specs.Judging.{Judging}
-use Rattle.search.specs.Walk.{waiting_after, most_waiting}
+use Rattle.search.specs.Walk.{waiting_after}
 use Rattle.search.specs.Honest.{string_in}
-use Rattle.calls.specs.Chain.{guard}
-use Rattle.calls.specs.Sheets.{sound_at}
 use Rattle.calls.specs.Proving.{node_proved, proved_from, all_bytes}
 use Rattle.mirror.specs.Steps.{end_of, IsWritten}
-use Rattle.mirror.proofs.Chains.{onward_passed, guard_passed, mapped_ok, mapped_err, mapped_twice}
-
--- every string has its kind
-pub string_some : (digests : List (List ℕ)) (node : Node) → 4 ≤ length (string_in digests node)
-string_some digests node = omega arith
-
--- a node that is proved has room
-pub proved_fits : {Q : Type 0} (judging : Judging Q) (question : Q) (nodes : List Node) (digests : List (List ℕ)) (room place : ℕ) (waiting : List ℕ) (node : Node)
-    → node_proved judging question nodes digests room place waiting ≡ Ok node → length (string_in digests node) ≤ room
-proved_fits judging question nodes digests room place waiting node h =
-    let fitting : Node → Result Node Refusal = λ n. onward (guard (leb (length (string_in digests n)) room) ProofBufferFull) (λ _.
-    onward (guard (leb (length (waiting_after judging question n waiting)) most_waiting) StackFull) (λ _. Ok n)) in
-    let sound = onward_passed (sound_at judging nodes place) fitting node h in
-    let n = sound.value in
-    let ending : Unit {0} → Result Node Refusal = λ _. onward (guard (leb (length (waiting_after judging question n waiting)) most_waiting) StackFull) (λ _. Ok n) in
-    let fits = onward_passed (guard (leb (length (string_in digests n)) room) ProofBufferFull) ending node sound.then in
-    let last = onward_passed (guard (leb (length (waiting_after judging question n waiting)) most_waiting) StackFull) (λ _. Ok n) node fits.then in
-    let same : n ≡ node = let e = last.then in cc in
-    subst (λ m. length (string_in digests m) ≤ room) same
-    (leb-true (length (string_in digests n)) room (guard_passed (leb (length (string_in digests n)) room) ProofBufferFull fits.value fits.is))
+use Rattle.calls.proofs.Chains.{onward_at, map_ok_ok}
+use Rattle.calls.proofs.ProveSteps.{node_tests, prove_end, prove_step}
+use Rattle.calls.proofs.Strings.{string_some}
+use Rattle.mirror.proofs.Chains.{mapped_err, mapped_twice}
 
 step_on : {Q : Type 0} (judging : Judging Q) (question : Q) (nodes : List Node) (digests : List (List ℕ)) (turns room place : ℕ) (waiting : List ℕ) (node : Node)
     → node_proved judging question nodes digests room place waiting ≡ Ok node
     → proved_from judging question nodes digests (suc turns) room (place ∷ waiting)
     ≡ map_ok (λ strings. string_in digests node ∷ strings) (proved_from judging question nodes digests turns (room - length (string_in digests node)) (waiting_after judging question node waiting))
-unfolding proved_from
 step_on judging question nodes digests turns room place waiting node h =
-    ap (λ m. onward m (λ n. map_ok (λ strings. string_in digests n ∷ strings)
-    (proved_from judging question nodes digests turns (room - length (string_in digests n)) (waiting_after judging question n waiting)))) h
+    prove_step judging question nodes digests turns room place waiting ∙ onward_at (node_proved judging question nodes digests room place waiting) node _ h
 
 step_off : {Q : Type 0} (judging : Judging Q) (question : Q) (nodes : List Node) (digests : List (List ℕ)) (turns room place : ℕ) (waiting : List ℕ) (e : Refusal)
     → node_proved judging question nodes digests room place waiting ≡ Err e
@@ -52,11 +30,6 @@ unfolding proved_from
 step_off judging question nodes digests turns room place waiting e h =
     ap (λ m. onward m (λ n. map_ok (λ strings. string_in digests n ∷ strings)
     (proved_from judging question nodes digests turns (room - length (string_in digests n)) (waiting_after judging question n waiting)))) h
-
-step_none : {Q : Type 0} (judging : Judging Q) (question : Q) (nodes : List Node) (digests : List (List ℕ)) (turns room : ℕ)
-    → proved_from judging question nodes digests (suc turns) room [] ≡ Ok []
-unfolding proved_from
-step_none judging question nodes digests turns room = refl
 
 -- Strings that are written, then those of what waits: together all strings from where the traversal began.
 pub record WrittenSoFar {Q : Type 0} (judging : Judging Q) (question : Q) (nodes : List Node) (digests : List (List ℕ)) (begun : List ℕ) (room : ℕ) (waiting : List ℕ) (strings bytes : ℕ) (buffer : List ℕ) : Type 0 where
@@ -116,7 +89,7 @@ pub one_more : {Q : Type 0} (judging : Judging Q) (question : Q) (nodes : List N
 one_more judging question nodes digests begun room place all waiting then buffer buffer_then strings bytes node so_far top long proved written =
     let string = string_in digests node in
     let done = so_far.done in
-    let fits = proved_fits judging question nodes digests (room - bytes) place waiting node proved in
+    let fits = (node_tests judging question nodes digests (room - bytes) place waiting node proved).fits in
     let some = string_some digests node in
     let turn = one_more_turn so_far.turns (room - bytes) so_far.enough in
     let join : all_bytes (done ++ string ∷ []) ≡ all_bytes done ++ string =
@@ -164,7 +137,7 @@ ends judging question nodes digests begun room all buffer strings bytes so_far t
     so_far.goes_on
     ∙ ap (λ t. map_ok (λ more. done ++ more) (proved_from judging question nodes digests t (room - bytes) all)) turn.1
     ∙ ap (λ w. map_ok (λ more. done ++ more) (proved_from judging question nodes digests (suc turn.0) (room - bytes) w)) top
-    ∙ ap (map_ok (λ more. done ++ more)) (step_none judging question nodes digests turn.0 (room - bytes))
+    ∙ ap (map_ok (λ more. done ++ more)) (prove_end judging question nodes digests turn.0 (room - bytes))
     ∙ ap Ok (append-nil done)
 
 -- A turn: the node at the newest place is written, and the rest goes on.
@@ -178,12 +151,12 @@ pub goes_on_lem : {Q : Type 0} (judging : Judging Q) (question : Q) (nodes : Lis
     → ((node : Node) → node_proved judging question nodes digests (length buffer - bytes) place waiting ≡ Ok node → IsWritten judging question digests node bytes waiting then buffer buffer_then)
     → Turned judging question nodes digests begun room then (strings + 1) end buffer_then bytes
 goes_on_lem judging question nodes digests begun room place all waiting then buffer buffer_then strings bytes end so_far top long answer leaves =
-    let m = mapped_ok (end_of digests bytes) (node_proved judging question nodes digests (length buffer - bytes) place waiting) end answer in
-    let node = m.value in
-    let proved = subst (λ n. node_proved judging question nodes digests (n - bytes) place waiting ≡ Ok node) long m.is in
-    subst (λ n. Turned judging question nodes digests begun room then (strings + 1) n buffer_then bytes) (sym m.shows)
+    let m = map_ok_ok (end_of digests bytes) (node_proved judging question nodes digests (length buffer - bytes) place waiting) end (sym answer) in
+    let node = m.0 in
+    let proved = subst (λ n. node_proved judging question nodes digests (n - bytes) place waiting ≡ Ok node) long m.1 in
+    subst (λ n. Turned judging question nodes digests begun room then (strings + 1) n buffer_then bytes) (sym m.2)
     (record {
-      so_far = one_more judging question nodes digests begun room place all waiting then buffer buffer_then strings bytes node so_far top long proved (leaves node m.is);
+      so_far = one_more judging question nodes digests begun room place all waiting then buffer buffer_then strings bytes node so_far top long proved (leaves node m.1);
       later = omega (arith, string_some digests node);
     })
 

@@ -1,23 +1,24 @@
 //! A proof written from a sheet that anybody may have written.
 
-ghost use Rattle.std.specs.Prelude.{◌≡◌, ℕ, suc, ◌-◌, ◌<◌, ◌≤◌, true, List, [], ◌∷◌, length, take, Ok};
+ghost use Rattle.std.specs.Prelude.{◌≡◌, ℕ, suc, ◌-◌, ◌≤◌, List, [], ◌∷◌, length, take, Ok};
 ghost use Rattle.calls.specs.Proving.{all_bytes, node_proved, prove_answer, prove_buffer, proved_from, proved_strings};
-ghost use Rattle.calls.specs.Sheets.{digests_on, nodes_in};
+ghost use Rattle.calls.specs.Sheets.{nodes_of, stored_digests};
 ghost use Rattle.mirror.specs.Steps.{IsWritten, end_of, summed};
 ghost use Rattle.reader.specs.Reading.{map_ok};
 ghost use Rattle.search.specs.Node.{Node};
-ghost use Rattle.search.specs.Walk.{most_waiting};
 ghost use Rattle.slices.specs.Stacks.{contents};
 
-use crate::LONGEST_PROOF;
+use crate::asked::Asked;
+use crate::waiting::Waiting;
 use crate::ways::push_named;
 use calls::outcomes::Proved;
+use reader::Reader;
 use refusal::Refusal;
 use search::chart::Chart;
 use search::sheet::SheetRecord;
-use sheets::reading::{is_count, sound_node};
+use sheets::reading::sound_node;
 use sheets::strings::write_node;
-use slices::{Stack, fill_rest};
+use slices::fill_rest;
 
 /// Writes the strings of the nodes that a traversal by the question takes, and zeros after them; refused, zeros alone.
 pub fn prove<C: Chart>(
@@ -29,16 +30,10 @@ pub fn prove<C: Chart>(
     ensures answer { result ≡ prove_answer C.Chart.judging sheet.now count question.now buffer.old }
     ensures after { buffer.new ≡ prove_buffer C.Chart.judging sheet.now count question.now buffer.old }
 {
-    match write_proof::<C>(sheet, count, question, buffer) {
-        Ok(proved) => {
-            fill_rest(buffer, proved.bytes, 0);
-            Ok(proved)
-        }
-        Err(refusal) => {
-            fill_rest(buffer, 0, 0);
-            Err(refusal)
-        }
-    }
+    let outcome = write_proof::<C>(sheet, count, question, buffer);
+    let written = outcome.map_or(0, |proved| proved.bytes);
+    fill_rest(buffer, written, 0);
+    outcome
 }
 
 /// Writes the proof, or leaves whatever bytes where it is refused.
@@ -54,76 +49,47 @@ fn write_proof<C: Chart>(
     if !C::is_within_bounds(question) {
         return Err(Refusal::QuestionOutOfBounds);
     }
-    if !is_count(sheet, count) {
-        return Err(Refusal::SheetUnsound);
-    }
-    let room = buffer.len().min(LONGEST_PROOF);
-    write_strings::<C>(sheet, count, question, &mut buffer[..room])
+    let asked = Asked::<C>::of_sheet(sheet, count, question)?;
+    let room = buffer.len().min(Reader::LONGEST);
+    write_strings(&asked, &mut buffer[..room])
 }
 
 /// Writes the strings of a traversal from the root on; the whole buffer is room for them.
-fn write_strings<C: Chart>(
-    sheet: &[SheetRecord],
-    count: usize,
-    question: &C::Question,
-    buffer: &mut [u8],
-) -> Result<Proved, Refusal>
-    requires bounds { C.Chart.judging.is_within_bounds question.now ≡ true }
-    requires some { 0 < count }
-    requires few { count ≤ 8192 }
-    ensures answer { result ≡ map_ok summed (proved_from C.Chart.judging question.now (nodes_in C.Chart.judging sheet.now count) (digests_on sheet.now count) (suc (length buffer.old)) (length buffer.old) ((count - 1) ∷ [])) }
-    ensures stands { (strings : List (List ℕ)) → proved_from C.Chart.judging question.now (nodes_in C.Chart.judging sheet.now count) (digests_on sheet.now count) (suc (length buffer.old)) (length buffer.old) ((count - 1) ∷ []) ≡ Ok strings → take (length (all_bytes strings)) buffer.new ≡ all_bytes strings }
+fn write_strings<C: Chart>(asked: &Asked<'_, C>, buffer: &mut [u8]) -> Result<Proved, Refusal>
+    ensures answer { result ≡ map_ok summed (proved_from C.Chart.judging asked.now.question.now (nodes_of C.Chart.judging asked.now.counted.now) (stored_digests asked.now.counted.now) (suc (length buffer.old)) (length buffer.old) ((length asked.now.counted.now - 1) ∷ [])) }
+    ensures stands { (strings : List (List ℕ)) → proved_from C.Chart.judging asked.now.question.now (nodes_of C.Chart.judging asked.now.counted.now) (stored_digests asked.now.counted.now) (suc (length buffer.old)) (length buffer.old) ((length asked.now.counted.now - 1) ∷ []) ≡ Ok strings → take (length (all_bytes strings)) buffer.new ≡ all_bytes strings }
 {
+    let root = asked.counted.len() - 1;
+    // Room of its own, lent to what waits: the library allocates nothing.
     let mut places = [0u32; 64];
-    let mut stack = Stack::new(&mut places);
-    let _ = stack.push((count - 1) as u32);
+    // At most 8,192 records are counted, so 32 bits hold the root's place.
+    let mut waiting = Waiting::at_root(&mut places, root as u32);
     let mut proved = Proved {
         strings: 0,
         bytes: 0,
     };
-    while let Some(place) = stack.pop() {
-        match take_node::<C>(
-            sheet,
-            count,
-            question,
-            place,
-            &mut stack,
-            buffer,
-            proved.bytes,
-        ) {
-            Ok(end) => {
-                proved = Proved {
-                    strings: proved.strings + 1,
-                    bytes: end,
-                };
-            }
-            Err(refusal) => return Err(refusal),
-        }
+    while let Some(place) = waiting.pop() {
+        proved.bytes = take_node(asked, place, &mut waiting, buffer, proved.bytes)?;
+        proved.strings += 1;
     }
     Ok(proved)
 }
 
 /// Takes the node at a place: writes its string, and puts the ways that it names on what waits.
 fn take_node<C: Chart>(
-    sheet: &[SheetRecord],
-    count: usize,
-    question: &C::Question,
+    asked: &Asked<'_, C>,
     place: u32,
-    stack: &mut Stack<'_, u32>,
+    waiting: &mut Waiting<'_>,
     buffer: &mut [u8],
     at: usize,
 ) -> Result<usize, Refusal>
-    requires bounds { C.Chart.judging.is_within_bounds question.now ≡ true }
-    requires places { length stack.old.places.now ≡ most_waiting }
-    requires within { at ≤ length buffer.old }
-    ensures answer { result ≡ map_ok (end_of (digests_on sheet.now count) at) (node_proved C.Chart.judging question.now (nodes_in C.Chart.judging sheet.now count) (digests_on sheet.now count) (length buffer.old - at) place (contents stack.old)) }
-    ensures leaves { (node : Node) → node_proved C.Chart.judging question.now (nodes_in C.Chart.judging sheet.now count) (digests_on sheet.now count) (length buffer.old - at) place (contents stack.old) ≡ Ok node → IsWritten C.Chart.judging question.now (digests_on sheet.now count) node at (contents stack.old) (contents stack.new) buffer.old buffer.new }
-    ensures places { length stack.new.places.now ≡ most_waiting }
+    requires { at ≤ length buffer.old }
+    ensures answer { result ≡ map_ok (end_of (stored_digests asked.now.counted.now) at) (node_proved C.Chart.judging asked.now.question.now (nodes_of C.Chart.judging asked.now.counted.now) (stored_digests asked.now.counted.now) (length buffer.old - at) place (contents waiting.old.stack)) }
+    ensures leaves { (node : Node) → node_proved C.Chart.judging asked.now.question.now (nodes_of C.Chart.judging asked.now.counted.now) (stored_digests asked.now.counted.now) (length buffer.old - at) place (contents waiting.old.stack) ≡ Ok node → IsWritten C.Chart.judging asked.now.question.now (stored_digests asked.now.counted.now) node at (contents waiting.old.stack) (contents waiting.new.stack) buffer.old buffer.new }
 {
-    let node = sound_node::<C>(sheet, count, place as usize)?;
-    let Ok(end) = write_node(sheet, count, &node, buffer, at) else {
-        return Err(Refusal::ProofBufferFull);
-    };
-    push_named::<C>(question, &node, stack)?;
+    // A place has 32 bits, and no `From` makes a usize of them.
+    let node = sound_node::<C>(asked.counted, place as usize)?;
+    let end = write_node(asked.counted, &node, buffer, at).map_err(|_| Refusal::ProofBufferFull)?;
+    push_named(asked, &node, waiting)?;
     Ok(end)
 }

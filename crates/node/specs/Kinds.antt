@@ -1,7 +1,8 @@
 -- The kinds of nodes, each with its number and the shape of its strings.
-use Rattle.std.specs.Prelude.{◌≡◌, ℕ, ◌+◌, ◌*◌, ◌≤◌, List, [], ◌∷◌, Some, Option}
+use Rattle.std.specs.Prelude.{◌≡◌, ℕ, ◌+◌, ◌*◌, ◌≤◌, List, [], ◌∷◌, Some, None, Option, Result, MatchResult}
 use Rattle.std.specs.List.{slice_get}
 use Rattle.node.specs.declared.kind.Kind.{Kind}
+use Rattle.node.specs.declared.kind.KindNotKnown.{KindNotKnown}
 use Rattle.node.specs.declared.kind.Kind.TheVariants.{Empty, Split, Edge, Zone, XSpan, YSpan, Site}
 use Rattle.node.specs.declared.shape.Shape.{Shape}
 
@@ -21,6 +22,13 @@ kinds = Empty ∷ Split ∷ Edge ∷ Zone ∷ XSpan ∷ YSpan ∷ Site ∷ []
 -- The kind of a number; from 7 on there is none.
 abbrev pub kind_numbered : ℕ → Option Kind
 kind_numbered number = slice_get kinds number
+
+-- A number turned into the kind that it stands for; one that stands for none is told of.
+abbrev pub StandsFor : ℕ → Result Kind KindNotKnown → Type 0
+StandsFor number result =
+    MatchResult result
+    (λ kind. kind_numbered number ≡ Some kind)
+    (λ told. (kind_numbered number ≡ None) × (told.0 ≡ number))
 
 abbrev pub shaped : ℕ → ℕ → Shape
 shaped numbers successors = record { numbers = numbers; successors = successors }

@@ -1,11 +1,11 @@
 //! The kinds of nodes.
 
 ghost use Rattle.std.specs.Prelude.{◌≡◌};
-ghost use Rattle.node.specs.Kinds.{NumbersNameKinds, kind_numbered, number_of, shape_of};
+ghost use Rattle.node.specs.Kinds.{NumbersNameKinds, StandsFor, number_of, shape_of};
 
 use crate::shape::Shape;
 
-#[derive(Clone, Copy)]
+#[derive(Clone, Copy, Debug, PartialEq, Eq)]
 pub enum Kind {
     Empty,
     Split,
@@ -16,27 +16,36 @@ pub enum Kind {
     Site,
 }
 
-impl Kind {
-    /// The kind that a number stands for in a string.
-    pub fn of_number(number: u32) -> Option<Kind>
-        ensures { result ≡ kind_numbered number }
-    {
+/// A number that stands for no kind.
+#[derive(Clone, Copy, Debug, PartialEq, Eq)]
+pub struct KindNotKnown(pub u32);
+
+/// The kind that a number stands for in a string.
+impl TryFrom<u32> for Kind {
+    type Error = KindNotKnown;
+
+    ghost try_from_gives = { StandsFor };
+
+    fn try_from(number: u32) -> Result<Kind, KindNotKnown> {
         match number {
-            0 => Some(Kind::Empty),
-            1 => Some(Kind::Split),
-            2 => Some(Kind::Edge),
-            3 => Some(Kind::Zone),
-            4 => Some(Kind::XSpan),
-            5 => Some(Kind::YSpan),
-            6 => Some(Kind::Site),
-            _ => None,
+            0 => Ok(Kind::Empty),
+            1 => Ok(Kind::Split),
+            2 => Ok(Kind::Edge),
+            3 => Ok(Kind::Zone),
+            4 => Ok(Kind::XSpan),
+            5 => Ok(Kind::YSpan),
+            6 => Ok(Kind::Site),
+            _ => Err(KindNotKnown(number)),
         }
     }
+}
 
-    pub fn number(self) -> u32
-        ensures { result ≡ number_of self }
-    {
-        match self {
+/// The number that stands for it in a string.
+impl From<Kind> for u32 {
+    ghost from_gives = { λ kind number. number ≡ number_of kind };
+
+    fn from(kind: Kind) -> u32 {
+        match kind {
             Kind::Empty => 0,
             Kind::Split => 1,
             Kind::Edge => 2,
@@ -46,7 +55,9 @@ impl Kind {
             Kind::Site => 6,
         }
     }
+}
 
+impl Kind {
     /// The shape of its strings.
     pub fn shape(self) -> Shape
         ensures { result ≡ shape_of self }

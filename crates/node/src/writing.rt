@@ -3,24 +3,36 @@
 //! The parts can be written one by one, so that a caller whose digests stand in several places
 //! copies each of them once.
 
-ghost use Rattle.std.specs.Prelude.{◌≡◌, ◌+◌, ◌≤◌, length};
-ghost use Rattle.node.specs.Strings.{xdr_ints, xdr_opaques};
+ghost use Rattle.std.specs.Prelude.{◌≡◌, ◌+◌, ◌<◌, ◌≤◌, length, MatchResult};
+ghost use Rattle.std.specs.List.{flat_map};
 ghost use Rattle.node.specs.Writing.{put_at, written, written_end, written_string, written_string_end};
 ghost use Rattle.node.specs.Xdr.{xdr_uint, xdr_int, xdr_opaque};
+ghost use Rattle.node.specs.declared.writing.NotWritten.TheVariants as NotWritten;
+
+use crate::encoded::Encoded;
 
 /// The bytes do not fit between the place and the end of the buffer.
-#[derive(Clone, Copy)]
+#[derive(Clone, Copy, Debug, PartialEq, Eq)]
 pub struct NoRoom;
 
 /// Why a whole string was not written.
-#[derive(Clone, Copy)]
+#[derive(Clone, Copy, Debug, PartialEq, Eq)]
 pub enum NotWritten {
     /// More than four numbers, or more than three digests.
     TooManyParts,
     NoRoom,
 }
 
-/// Writes the string of a node and gives the place after it. Refused, the buffer is as it was.
+impl From<NoRoom> for NotWritten {
+    ghost from_gives = { λ _ why. why ≡ NotWritten.NoRoom };
+
+    fn from(_: NoRoom) -> NotWritten {
+        NotWritten::NoRoom
+    }
+}
+
+/// Writes the string of a node and gives the place after it. Refused, the buffer is as it was. A chart may have kinds of its own,
+/// so a kind is any number.
 pub fn write_string(
     out: &mut [u8],
     at: usize,
@@ -35,37 +47,28 @@ pub fn write_string(
         return Err(NotWritten::TooManyParts);
     }
     let length = 4 + 4 * numbers.len() + 32 * digests.len();
-    if at > out.len() || out.len() - at < length {
-        return Err(NotWritten::NoRoom);
-    }
+    let end = end_in(out, at, length)?;
     let after_kind = put(out, at, &kind.to_be_bytes());
-    let after_numbers = put_ints(out, after_kind, numbers);
-    Ok(put_digests(out, after_numbers, digests))
+    let after_numbers = put_each(out, after_kind, numbers);
+    put_each(out, after_numbers, digests);
+    Ok(end)
 }
 
-fn put_ints(out: &mut [u8], at: usize, numbers: &[i32]) -> usize
-    requires { at + length (xdr_ints numbers.now) ≤ length out.old }
-    ensures answer { result ≡ at + length (xdr_ints numbers.now) }
-    ensures after { out.new ≡ put_at out.old at (xdr_ints numbers.now) }
+/// Writes items one after another and gives the place after the last.
+fn put_each<T: Encoded<N>, const N: usize>(out: &mut [u8], at: usize, items: &[T]) -> usize
+    requires room { at + length (flat_map T.encoding items.now) ≤ length out.old }
+    requires small { N ≤ 32 }
+    ensures answer { result ≡ at + length (flat_map T.encoding items.now) }
+    ensures after { out.new ≡ put_at out.old at (flat_map T.encoding items.now) }
 {
     let mut end = at;
-    for number in numbers {
-        end = put(out, end, &number.to_be_bytes());
+    for item in items {
+        end = put(out, end, &item.encoded());
     }
     end
 }
 
-fn put_digests(out: &mut [u8], at: usize, digests: &[[u8; 32]]) -> usize
-    requires { at + length (xdr_opaques digests.now) ≤ length out.old }
-    ensures answer { result ≡ at + length (xdr_opaques digests.now) }
-    ensures after { out.new ≡ put_at out.old at (xdr_opaques digests.now) }
-{
-    let mut end = at;
-    for digest in digests {
-        end = put(out, end, digest);
-    }
-    end
-}
+// One function for each type of the standard, all three a line over `put_bytes`.
 
 /// Writes an unsigned integer and gives the place after it.
 pub fn put_uint(out: &mut [u8], at: usize, value: u32) -> Result<usize, NoRoom>
@@ -91,14 +94,23 @@ pub fn put_digest(out: &mut [u8], at: usize, digest: &[u8; 32]) -> Result<usize,
     put_bytes(out, at, digest)
 }
 
+/// The place after so many bytes from a place on, if they fit.
+fn end_in(out: &[u8], at: usize, count: usize) -> Result<usize, NoRoom>
+    ensures { MatchResult result (λ end. (end ≡ at + count) × (end ≤ length out.now)) (λ _. length out.now < at + count) }
+{
+    if at > out.len() || out.len() - at < count {
+        return Err(NoRoom);
+    }
+    Ok(at + count)
+}
+
 fn put_bytes(out: &mut [u8], at: usize, bytes: &[u8]) -> Result<usize, NoRoom>
     ensures answer { result ≡ written_end out.old at bytes.now }
     ensures after { out.new ≡ written out.old at bytes.now }
 {
-    if at > out.len() || out.len() - at < bytes.len() {
-        return Err(NoRoom);
-    }
-    Ok(put(out, at, bytes))
+    let end = end_in(out, at, bytes.len())?;
+    put(out, at, bytes);
+    Ok(end)
 }
 
 fn put(out: &mut [u8], at: usize, bytes: &[u8]) -> usize

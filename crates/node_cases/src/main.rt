@@ -5,7 +5,7 @@
 mod reading;
 mod samples;
 
-use fault::{Fault, Layer};
+use fault::Fault;
 use node::{Kind, write_string};
 use reader::NodeView;
 use reading::read_one;
@@ -24,6 +24,7 @@ const KINDS: [Kind; 7] = [
 
 fn main(rt: HostRuntime) -> io::Result<()> {
     for kind in KINDS {
+        // Each turn is a case.
         for turn in 0..4 {
             show_kind(&rt, kind, turn)?;
         }
@@ -44,7 +45,7 @@ fn show_kind(rt: &impl Print, kind: Kind, turn: usize) -> io::Result<()> {
     let written = write_string(
         &mut buffer,
         0,
-        kind.number(),
+        u32::from(kind),
         &numbers[0..number_count],
         &digests[0..digest_count],
     );
@@ -55,7 +56,8 @@ fn show_kind(rt: &impl Print, kind: Kind, turn: usize) -> io::Result<()> {
     print!(rt; "string ")?;
     show_bytes(rt, &buffer[0..length])?;
     println!(rt; "")?;
-    for cut in 0..length + 1 {
+    // Each cut is a case, and no place of a byte that is read.
+    for cut in 0..=length {
         show_read(rt, &buffer[0..cut.min(116)])?;
     }
     Ok(())
@@ -73,28 +75,19 @@ fn show_view(rt: &impl Print, view: &NodeView) -> io::Result<()> {
     let ends = view.ends();
     let kind = view.kind();
     print!(rt; "bytes {begins} to {ends}: kind {kind}")?;
-    for i in 0..4 {
-        if let Some(number) = view.number(i) {
-            print!(rt; ", number {number}")?;
-        }
+    for number in (0..4).filter_map(|i| view.number(i)) {
+        print!(rt; ", number {number}")?;
     }
-    for i in 0..3 {
-        if let Some(digest) = view.digest(i) {
-            print!(rt; ", digest ")?;
-            show_bytes(rt, digest)?;
-        }
+    for digest in (0..3).filter_map(|i| view.digest(i)) {
+        print!(rt; ", digest ")?;
+        show_bytes(rt, digest)?;
     }
     println!(rt; "")
 }
 
 fn show_fault(rt: &impl Print, fault: Fault) -> io::Result<()> {
     let number = fault.number();
-    let layer = match fault.layer() {
-        Layer::Reader => "reader",
-        Layer::Hash => "hash",
-        Layer::Search => "search",
-        Layer::Answer => "answer",
-    };
+    let layer = fault.layer();
     let step = fault.step();
     let place = fault.place();
     println!(rt; "refused {number} ({layer}) at step {step}, byte {place}")

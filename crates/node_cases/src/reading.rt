@@ -6,7 +6,7 @@ ghost use Rattle.reader.specs.Reading.{map_ok};
 ghost use Rattle.reader.specs.Views.{seen_in};
 
 use fault::{Fault, SearchFault, at_step, at_string};
-use node::Kind;
+use node::{Kind, KindNotKnown};
 use reader::{NodeView, Reader};
 
 /// The bytes as one string and nothing else.
@@ -24,8 +24,5 @@ pub fn read_one(bytes: &[u8]) -> Result<NodeView<'_>, Fault>
 fn known_kind(number: u32) -> Result<Kind, SearchFault>
     ensures { result ≡ known_kind number }
 {
-    match Kind::of_number(number) {
-        Some(kind) => Ok(kind),
-        None => Err(SearchFault::KindNotKnown(number)),
-    }
+    Kind::try_from(number).map_err(|KindNotKnown(number)| SearchFault::KindNotKnown(number))
 }

@@ -1,5 +1,3 @@
 pub mod Showing
 pub mod Turns
-pub mod Written
 pub mod Nodes
-pub mod Drawn

@@ -1,23 +1,17 @@
 -- The lines of strings, one string after another.
-use Rattle.std.proofs.Common.{◌≡◌, ℕ, zero, suc, ◌+◌, ◌-◌, ◌<◌, ◌≤◌, Bool, true, false, cond, ltb, List, [], ◌++◌, length, is_err, Some, None, Ok, Err, Option, Result, sym, refl, ap, ◌∙◌, arith}
-use Rattle.std.proofs.lemmas.Bool.{cond-true, cond-false, le-ltb, lt-ltb, ltb-false, ltb-true}
+use Rattle.std.proofs.Common.{◌≡◌, ℕ, zero, suc, ◌+◌, ◌-◌, ◌<◌, ◌≤◌, Bool, true, cond, ltb, List, [], ◌++◌, length, is_err, Some, None, Ok, Err, Option, Result, sym, refl, ap, ◌∙◌, arith}
+use Rattle.std.proofs.lemmas.Bool.Decides.{nat_tests}
+use Rattle.std.proofs.lemmas.Bool.{cond-true, lt-ltb}
 use Rattle.node.specs.Kinds.{kind_numbered, shape_of}
 use Rattle.node.specs.declared.kind.Kind.{Kind}
 use Rattle.reader.specs.Reading.{Position, bytes_left, finished, read_kind, read_string}
 use Rattle.reader.specs.Views.{StringSeen}
 use Rattle.reader.specs.declared.fault.ReaderFault.{ReaderFault}
-use Rattle.reader.specs.declared.fault.ReaderFault.TheVariants.{BytesLeftOver}
 use Rattle.reader.proofs.Outcomes.{read_shortens}
 use Rattle.script.specs.Lines.{ended}
 use Rattle.node_lines.specs.declared.next_string.StringFault.{StringFault}
 use Rattle.node_lines.specs.NextString.{after_kind, next_string, of_kind, or_cut_short, place_after}
-use Rattle.node_lines.specs.StringLines.{AllStringsHaveLines, all_string_lines, at_place, digests_shown, line_and_later, line_of_fault, line_of_string, numbers_shown, of_kind_number, string_lines}
-
-no_string : {E X : Type 0} (e : E) (x : X) → Err e ≡ Ok x → ⊥
-no_string e x q = let z : ◌≡◌ {A = ℕ} 0 1 = cc in omega arith
-
-same_ok : {X : Type 0} (x y : X) → ◌≡◌ {A = Result X StringFault} (Ok x) (Ok y) → x ≡ y
-same_ok x y q = cc
+use Rattle.node_lines.specs.StringLines.{AllStringsHaveLines, all_string_lines, line_and_later, line_of_fault, line_of_string, string_lines}
 
 -- After a string at least four bytes fewer are left.
 module _ (p : Position) (seen : StringSeen) where
@@ -25,16 +19,16 @@ module _ (p : Position) (seen : StringSeen) where
   Shorter = length p.bytes - seen.ends + 4 ≤ bytes_left p
 
   rest_shorter : (kind : Kind) (r : Result StringSeen ReaderFault) → read_string p (shape_of kind) ≡ r → or_cut_short r ≡ Ok seen → Shorter
-  rest_shorter kind (Ok s) read e = read_shortens p (shape_of kind) seen (read ∙ ap Ok (same_ok s seen e))
-  rest_shorter kind (Err f) read e = absurd (no_string _ seen e)
+  rest_shorter kind (Ok s) read e = read_shortens p (shape_of kind) seen (cc)
+  rest_shorter kind (Err f) read e = cc
 
   kind_shorter : (number : ℕ) (o : Option Kind) → of_kind p number o ≡ Ok seen → Shorter
-  kind_shorter number None e = absurd (no_string _ seen e)
+  kind_shorter number None e = cc
   kind_shorter number (Some kind) e = rest_shorter kind (read_string p (shape_of kind)) refl e
 
   next_shorter : (r : Result ℕ ReaderFault) → after_kind p r ≡ Ok seen → Shorter
   next_shorter (Ok number) e = kind_shorter number (kind_numbered number) e
-  next_shorter (Err f) e = absurd (no_string _ seen e)
+  next_shorter (Err f) e = cc
 
 pub shortens : (p : Position) (seen : StringSeen) → next_string p ≡ Ok seen → length p.bytes - seen.ends + 4 ≤ bytes_left p
 shortens p seen e = next_shorter p seen (read_kind p) e
@@ -46,7 +40,7 @@ abbrev step : ℕ → Position → List ℕ
 step most p = line_and_later p.at (next_string p) (λ place. string_lines most (moved_to p place))
 
 nothing_left : (most : ℕ) (p : Position) → bytes_left p ≤ 0 → string_lines (suc most) p ≡ []
-nothing_left most p none = cond-false (ltb 0 (bytes_left p)) (step most p) [] (le-ltb 0 (bytes_left p) none)
+nothing_left most p none = grind (arith, nat_tests)
 
 same_step : (m n : ℕ) (p : Position) (r : Result StringSeen StringFault) → ((seen : StringSeen) → r ≡ Ok seen → string_lines m (moved_to p seen.ends) ≡ string_lines n (moved_to p seen.ends)) → line_and_later p.at r (λ place. string_lines m (moved_to p place)) ≡ line_and_later p.at r (λ place. string_lines n (moved_to p place))
 same_step m n p (Ok seen) later = ap (λ ls. ended (line_of_string seen) ++ ls) (later seen refl)
@@ -69,9 +63,6 @@ one_more p some =
     sym (all_strings_have_lines_lem (suc (bytes_left p)) p (omega arith))
     ∙ cond-true (ltb 0 (bytes_left p)) (step (bytes_left p) p) [] (lt-ltb 0 (bytes_left p) some)
 
-pub lines_end : (p : Position) → bytes_left p ≤ 0 → all_string_lines p ≡ []
-lines_end p none = sym (all_strings_have_lines_lem 1 p (omega arith)) ∙ nothing_left 0 p none
-
 pub lines_fault : (p : Position) (fault : StringFault) → 0 < bytes_left p → Err fault ≡ next_string p → all_string_lines p ≡ ended (line_of_fault p.at fault)
 lines_fault p fault some e =
     one_more p some ∙ ap (λ r. line_and_later p.at r (λ place. string_lines (bytes_left p) (moved_to p place))) (sym e)
@@ -85,25 +76,10 @@ lines_step p q seen some e same moved =
     ∙ (ap (λ ls. ended (line_of_string seen) ++ ls) (all_strings_have_lines_lem (bytes_left p) (moved_to p seen.ends) (omega arith))
     ∙ ap (λ place. ended (line_of_string seen) ++ all_string_lines place) there))
 
--- the line of a string, its place and kind known by other names
-pub line_parts : (seen : StringSeen) (place kind : ℕ) → place ≡ seen.begins → kind ≡ seen.kind → line_of_string seen ≡ (at_place place ++ of_kind_number kind) ++ (numbers_shown seen ++ digests_shown seen)
-line_parts seen place kind ep ek =
-    ap (λ n. (at_place n ++ of_kind_number seen.kind) ++ (numbers_shown seen ++ digests_shown seen)) (sym ep)
-    ∙ ap (λ n. (at_place place ++ of_kind_number n) ++ (numbers_shown seen ++ digests_shown seen)) (sym ek)
-
 -- whether bytes are left, as the reader says it
-left_as : (p : Position) (t : Bool) → ltb 0 (bytes_left p) ≡ t → is_err (finished p) ≡ t
-left_as p true e = ap is_err (cond-true (ltb 0 (bytes_left p)) (Err (BytesLeftOver p.at)) (Ok tt) e)
-left_as p false e = ap is_err (cond-false (ltb 0 (bytes_left p)) (Err (BytesLeftOver p.at)) (Ok tt) e)
-
-left_is : (p : Position) (f : Result (Unit {0}) ReaderFault) (b : Bool) → f ≡ finished p → b ≡ is_err f → ltb 0 (bytes_left p) ≡ b
-left_is p f b e h = sym (h ∙ (ap is_err e ∙ left_as p (ltb 0 (bytes_left p)) refl))
-
-pub some_left : (p : Position) (f : Result (Unit {0}) ReaderFault) (b : Bool) → f ≡ finished p → b ≡ is_err f → b ≡ true → 0 < bytes_left p
-some_left p f b e h t = ltb-true 0 (bytes_left p) (left_is p f b e h ∙ t)
-
-pub none_left : (p : Position) (f : Result (Unit {0}) ReaderFault) (b : Bool) → f ≡ finished p → b ≡ is_err f → b ≡ false → bytes_left p ≤ 0
-none_left p f b e h t = ltb-false 0 (bytes_left p) (left_is p f b e h ∙ t)
+module _ (p : Position) (f : Result (Unit {0}) ReaderFault) (b : Bool) (said : f ≡ finished p) (is : b ≡ is_err f) where
+  pub some_left : b ≡ true → 0 < bytes_left p
+  some_left t = grind (arith, nat_tests)
 
 -- where the reader is after a string
 pub place_after_lem : (p : Position) (seen : StringSeen) (at : ℕ) → Ok seen ≡ next_string p → at ≡ place_after p (next_string p) → at ≡ seen.ends

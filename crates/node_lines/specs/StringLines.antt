@@ -17,18 +17,22 @@ at_place place = codes "at " ++ decimal place
 abbrev pub of_kind_number : ℕ → List ℕ
 of_kind_number kind = codes ": kind " ++ decimal kind
 
-abbrev pub numbers_shown : StringSeen → List ℕ
-numbers_shown seen = after_text (codes ", numbers") field (numbers_in seen.numbers)
+abbrev pub numbers_shown : List ℕ → List ℕ
+numbers_shown bytes = after_text (codes ", numbers") field (numbers_in bytes)
 
 -- A digest in hex, after a space.
 abbrev pub hex_field : List ℕ → List ℕ
 hex_field bytes = 32 ∷ hex_of bytes
 
-abbrev pub digests_shown : StringSeen → List ℕ
-digests_shown seen = after_text (codes ", digests") hex_field (digests_in seen.successors)
+abbrev pub digests_shown : List ℕ → List ℕ
+digests_shown bytes = after_text (codes ", digests") hex_field (digests_in bytes)
+
+abbrev pub line_of_parts : ℕ → ℕ → List ℕ → List ℕ → List ℕ
+line_of_parts place kind numbers successors =
+    (at_place place ++ of_kind_number kind) ++ (numbers_shown numbers ++ digests_shown successors)
 
 abbrev pub line_of_string : StringSeen → List ℕ
-line_of_string seen = (at_place seen.begins ++ of_kind_number seen.kind) ++ (numbers_shown seen ++ digests_shown seen)
+line_of_string seen = line_of_parts seen.begins seen.kind seen.numbers seen.successors
 
 abbrev pub words_of_fault : StringFault → List ℕ
 words_of_fault CutShort = codes ": the bytes end inside a string"

@@ -20,13 +20,7 @@ pub fn answer_figure<C: Chart>(
 ) -> Result<(), AllocError>
     ensures { OnOk result (out.new.items ≡ out.old.items ++ printed_figure (C.Chart.drawing.figure (C.Chart.held register.now))) }
 {
-    let blank = SheetRecord {
-        kind: 0,
-        numbers: [0; 4],
-        successors: [0; 3],
-        digest: [0; 32],
-    };
-    let mut sheet = Vec::from_elem(heap, blank, FULL_SHEET)?;
+    let mut sheet = vec![in heap; SheetRecord::ZERO; FULL_SHEET]?;
     write_drawn(register, &mut sheet, out)
 }
 
@@ -40,7 +34,7 @@ fn write_drawn<C: Chart>(
     ensures { OnOk result (out.new.items ≡ out.old.items ++ printed_figure (C.Chart.drawing.figure (C.Chart.held register.now))) }
 {
     match register.draw(sheet) {
-        Ok(count) => write_figure(out, &sheet[0..count]),
+        Ok(count) => write_figure(out, &sheet[..count]),
         Err(refusal) => write_reply(out, Reply::Refused(refusal)),
     }
 }

@@ -1,9 +1,8 @@
 -- A drawn figure read again from its records.
-use Rattle.std.proofs.Common.{◌≡◌, ℕ, suc, ◌+◌, ◌≤◌, min, leb, List, [], ◌∷◌, ◌++◌, map, length, take, drop, replicate, pos, Some, Ok, Err, Option, sym, refl, ap, ◌∙◌, subst, ⊎_elim, arith, length-append}
+use Rattle.std.proofs.Common.{◌≡◌, ℕ, suc, ◌+◌, ◌≤◌, min, leb, List, [], ◌∷◌, ◌++◌, map, length, take, drop, replicate, pos, Some, Ok, Err, Option, sym, refl, ap, ◌∙◌, subst, ⊎_elim, arith}
 use Rattle.std.specs.List.{slice_get}
 use Rattle.std.proofs.lemmas.List.{length-map, take_at, drop_at, take_all, take-take}
 use Rattle.std.proofs.lemmas.Bool.{cases_Bool, cond-true, cond-false, le-leb, leb-true}
-use Rattle.refusal.specs.declared.Refusal.{Refusal}
 use Rattle.refusal.specs.declared.Refusal.TheVariants.{SheetTooSmall}
 use Rattle.node.specs.declared.shape.Shape.{Shape}
 use Rattle.search.specs.declared.sheet.SheetRecord.{SheetRecord}
@@ -49,9 +48,6 @@ module _ (figure : List Node) (sheet : List SheetRecord) (fits : length figure �
   back : drop (length figure) (drawn_sheet figure sheet) ≡ drop (length figure) sheet
   back = ap (drop (length figure)) drawn_whole ∙ drop_at (map record_of figure) (drop (length figure) sheet) (length figure) long
 
-  pub room : length figure ≤ length (drawn_sheet figure sheet)
-  room = omega (arith, ap length drawn_whole, length-append (map record_of figure) (drop (length figure) sheet), long)
-
   module _ {Q : Type 0} (judging : Judging Q) (well : JudgesWell judging) (is : IsFigure judging figure) where
     same_nodes : nodes_in judging (drawn_sheet figure sheet) (length figure) ≡ figure
     same_nodes = ap (map (node_in judging)) front ∙ show judging well 0 figure (λ place node at. let e : place ≡ 0 + place = omega arith in subst (λ (p : ℕ). Sound judging p node) e (is.sound place node at))
@@ -72,11 +68,4 @@ counted figure sheet count h =
     ⊎_elim
     (λ t. let e : Ok count ≡ Ok (length figure) = h ∙ cond-true _ _ _ t in (ok_same count (length figure) e, leb-true _ _ t))
     (λ f. let e : Ok count ≡ Err SheetTooSmall = h ∙ cond-false _ _ _ f in absurd (not_ok SheetTooSmall count (sym e)))
-    (cases_Bool (leb (length figure) (usable sheet)))
-
-pub only_drawn : (hash : List ℕ → List ℕ) (figure : List Node) (sheet : List SheetRecord) (refusal : Refusal) → Err refusal ≡ drawn_count figure sheet → drawn_sheet figure sheet ≡ published_sheet hash figure sheet
-only_drawn hash figure sheet refusal h =
-    ⊎_elim
-    (λ t. let e : Err refusal ≡ Ok (length figure) = h ∙ cond-true _ _ _ t in absurd (not_ok refusal (length figure) e))
-    (λ f. sym (cond-false (leb (length figure) (usable sheet)) _ _ f))
     (cases_Bool (leb (length figure) (usable sheet)))

@@ -1,7 +1,7 @@
 //! The digests of a drawn figure, each the hash of its node's string.
-ghost use Rattle.std.specs.Prelude.{◌≡◌, ◌≤◌, ◌++◌, length, take, drop};
-ghost use Rattle.calls.specs.Publishing.{with_digest, with_digests};
-ghost use Rattle.calls.specs.Sheets.{digests_on, nodes_in, sound_at};
+ghost use Rattle.std.specs.Prelude.{◌≡◌};
+ghost use Rattle.calls.specs.Publishing.{with_digests};
+ghost use Rattle.calls.specs.Sheets.{nodes_of, sound_at, stored_digests};
 ghost use Rattle.reader.specs.Reading.{map_ok};
 ghost use Rattle.search.specs.Figure.{IsFigure};
 ghost use Rattle.search.specs.Honest.{digests_of, string_in};
@@ -11,56 +11,34 @@ use refusal::Refusal;
 use search::chart::Chart;
 use search::sheet::SheetRecord;
 use sheets::reading::sound_node;
-use sheets::strings::write_node;
+use sheets::strings::{LONGEST_STRING, string_of};
 
-/// Every string fits: four numbers and three digests at most.
-const LONGEST_STRING: usize = 116;
-
-/// Puts the digest of each counted record's node into the record, in order, so that those of a node's successors stand there before.
-pub(crate) fn store_digests<H: Hash, C: Chart>(sheet: &mut [SheetRecord], count: usize)
-    requires within { count ≤ length sheet.old }
-    requires figure { IsFigure C.Chart.judging (nodes_in C.Chart.judging sheet.old count) }
-    ensures { sheet.new ≡ with_digests (take count sheet.old) (digests_of H.Hash.digest (nodes_in C.Chart.judging sheet.old count)) ++ drop count sheet.old }
+/// Puts the digest of each record's node into the record, in order, so that those of a node's successors stand there before.
+pub(crate) fn store_digests<H: Hash, C: Chart>(counted: &mut [SheetRecord])
+    requires { IsFigure C.Chart.judging (nodes_of C.Chart.judging counted.old) }
+    ensures { counted.new ≡ with_digests counted.old (digests_of H.Hash.digest (nodes_of C.Chart.judging counted.old)) }
 {
-    for place in 0..count {
-        let digest = match node_digest::<H, C>(sheet, count, place) {
-            Ok(digest) => digest,
-            Err(_) => unreachable(),
+    // By place: a digest is of the records before, which no iterator over the records lends.
+    for place in 0..counted.len() {
+        let Ok(digest) = node_digest::<H, C>(counted, place) else {
+            unreachable()
         };
-        sheet[place] = with_digest(&sheet[place], digest);
+        counted[place].digest = digest;
     }
 }
 
 /// The hash of the string of the node at a place. The digests in the string are those stored at its successor places.
 fn node_digest<H: Hash, C: Chart>(
-    sheet: &[SheetRecord],
-    count: usize,
+    counted: &[SheetRecord],
     place: usize,
 ) -> Result<[u8; 32], Refusal>
-    ensures { result ≡ map_ok (λ node. H.Hash.digest (string_in (digests_on sheet.now count) node)) (sound_at C.Chart.judging (nodes_in C.Chart.judging sheet.now count) place) }
+    ensures { result ≡ map_ok (λ node. H.Hash.digest (string_in (stored_digests counted.now) node)) (sound_at C.Chart.judging (nodes_of C.Chart.judging counted.now) place) }
 {
-    let node = match sound_node::<C>(sheet, count, place) {
-        Ok(node) => node,
-        Err(refusal) => return Err(refusal),
+    let node = sound_node::<C>(counted, place)?;
+    // Every string fits, and nothing is allocated.
+    let mut room = [0; LONGEST_STRING];
+    let Ok(digest) = H::hash(string_of(counted, &node, &mut room)) else {
+        unreachable()
     };
-    let mut string = [0; LONGEST_STRING];
-    let end = match write_node(sheet, count, &node, &mut string, 0) {
-        Ok(end) => end,
-        Err(_) => unreachable(),
-    };
-    match H::hash(&string[..end]) {
-        Ok(digest) => Ok(digest),
-        Err(_) => unreachable(),
-    }
-}
-
-fn with_digest(shown: &SheetRecord, digest: [u8; 32]) -> SheetRecord
-    ensures { result ≡ with_digest shown.now digest }
-{
-    SheetRecord {
-        kind: shown.kind,
-        numbers: shown.numbers,
-        successors: shown.successors,
-        digest,
-    }
+    Ok(digest)
 }

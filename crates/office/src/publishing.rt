@@ -19,23 +19,15 @@ pub fn publish<H: Hash, C: DrawnChart>(
     ensures after { sheet.new ≡ published_sheet H.Hash.digest (C.Chart.drawing.figure (C.Chart.held register.now)) sheet.old }
 {
     register.show_drawn();
-    match register.draw(sheet) {
-        Ok(count) => {
-            store_digests::<H, C>(sheet, count);
-            Ok(count)
-        }
-        Err(refusal) => Err(refusal),
-    }
+    let count = register.draw(sheet)?;
+    store_digests::<H, C>(&mut sheet[..count]);
+    Ok(count)
 }
 
 /// The root: the digest of the last of the counted records.
 pub fn root_of(sheet: &[SheetRecord], count: usize) -> Option<[u8; 32]>
     ensures { result ≡ root_in sheet.now count }
 {
-    let last = count.saturating_sub(1);
-    if last < sheet.len() {
-        Some(sheet[last].digest)
-    } else {
-        None
-    }
+    let last = sheet.get(count.saturating_sub(1))?;
+    Some(last.digest)
 }

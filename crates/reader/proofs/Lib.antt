@@ -1,4 +1,3 @@
-pub mod Words
 pub mod Indexed
 pub mod Chunking
 pub mod Outcomes

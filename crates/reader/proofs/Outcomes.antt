@@ -19,12 +19,17 @@ kind_read p enough =
 abbrev rest_of : Position → Shape → ℕ → Result StringSeen ReaderFault
 rest_of p shape kind = cond (ltb (bytes_left p) (string_length shape)) (Err (RestCutShort p.at)) (Ok (string_here p shape kind))
 
+-- the string after a kind that was read
+pub string_read_after : (p : Position) (shape : Shape) (kind : ℕ) → Ok kind ≡ read_kind p → string_length shape ≤ bytes_left p
+    → read_string p shape ≡ Ok (string_here p shape kind)
+string_read_after p shape kind read enough =
+    ap (λ t. onward t (rest_of p shape)) (sym read)
+    ∙ cond-false (ltb (bytes_left p) (string_length shape)) (Err (RestCutShort p.at)) (Ok (string_here p shape kind)) (le-ltb (bytes_left p) (string_length shape) enough)
+
 pub string_read : (p : Position) (shape : Shape) → string_length shape ≤ bytes_left p
     → read_string p shape ≡ Ok (string_here p shape (uint_of (part p.bytes p.at 4)))
 string_read p shape enough =
-    let kind = uint_of (part p.bytes p.at 4) in
-    ap (λ t. onward t (rest_of p shape)) (kind_read p (omega arith))
-    ∙ cond-false (ltb (bytes_left p) (string_length shape)) (Err (RestCutShort p.at)) (Ok (string_here p shape kind)) (le-ltb (bytes_left p) (string_length shape) enough)
+    string_read_after p shape (uint_of (part p.bytes p.at 4)) (sym (kind_read p (omega arith))) enough
 
 no_string : {X : Type 0} (e : ReaderFault) (x : X) → Err e ≡ Ok x → ⊥
 no_string e x q = let z : ◌≡◌ {A = ℕ} 0 1 = cc in omega arith

@@ -1,11 +1,15 @@
 -- Parts of lists of bytes: their sizes, parts in a row, parts of parts.
-use Rattle.std.proofs.Common.{◌≡◌, ℕ, ◌+◌, ◌-◌, ◌≤◌, List, ◌++◌, length, take, drop, sym, refl, ap, ◌∙◌, arith, take-add}
+use Rattle.std.proofs.Common.{◌≡◌, ℕ, ◌+◌, ◌-◌, ◌*◌, ◌≤◌, List, ◌++◌, length, take, drop, sym, refl, ap, ◌∙◌, arith, take-add}
 use Rattle.std.specs.List.{AllByRecursion}
 use Rattle.std.proofs.ByRecursion.{All-take, All-drop}
 use Rattle.std.proofs.lemmas.List.{drop-drop, take-take, length-take-le, length-drop, take_at, drop_at}
 use Rattle.std.proofs.lemmas.Slice.{between_is}
+use Rattle.node.specs.Kinds.{string_length}
+use Rattle.node.specs.declared.shape.Shape.{Shape}
 use Rattle.reader.specs.Parts.{part}
+use Rattle.reader.specs.Reading.{Position, string_here}
 use Rattle.reader.specs.RoundTrips.{IsByte}
+use Rattle.reader.specs.Views.{StringSeen}
 
 pub part_length : (bytes : List ℕ) (at n : ℕ) → at + n ≤ length bytes → length (part bytes at n) ≡ n
 part_length bytes at n within = length-take-le n (drop at bytes) (omega (arith, length-drop at bytes))
@@ -23,6 +27,31 @@ part_of_part bytes at n i k within =
     ap (take k) (sym (between_is (drop at bytes) i n))
     ∙ take-take k (n - i) (drop i (drop at bytes)) (omega arith)
     ∙ ap (take k) (drop-drop i at bytes)
+
+-- what follows in a part
+part_rest : (bytes : List ℕ) (at n i k : ℕ) → i + k ≡ n → drop i (part bytes at n) ≡ part bytes (at + i) k
+part_rest bytes at n i k whole =
+    let left : n - i ≡ k = omega (arith, whole) in
+    sym (between_is (drop at bytes) i n) ∙ ap (λ m. take m (drop i (drop at bytes))) left ∙ ap (take k) (drop-drop i at bytes)
+
+-- a string cut off the bytes from its place on, and into its kind, its numbers and its successors
+pub string_cut : (p : Position) (shape : Shape) (kind : ℕ) (rest string parts numbers successors : List ℕ) (size : ℕ)
+    → size ≡ string_length shape → rest ≡ drop p.at p.bytes → string ≡ take size rest → parts ≡ drop 4 string
+    → numbers ≡ take (4 * shape.numbers) parts → successors ≡ drop (4 * shape.numbers) parts
+    → ◌≡◌ {A = StringSeen} (record { kind = kind; string = string; numbers = numbers; successors = successors; begins = p.at; ends = p.at + size }) (string_here p shape kind)
+string_cut p shape kind rest string parts numbers successors size long from whole after front back =
+    let n : ℕ = 4 * shape.numbers in
+    let cut : string ≡ part p.bytes p.at size = whole ∙ ap (take size) from in
+    let behind : parts ≡ drop 4 (part p.bytes p.at size) = after ∙ ap (drop 4) cut in
+    let first : numbers ≡ part p.bytes (p.at + 4) n =
+    front ∙ ap (take n) behind ∙ part_of_part p.bytes p.at size 4 n (omega (arith, long)) in
+    let place : p.at + (4 + n) ≡ p.at + 4 + n = omega arith in
+    let second : successors ≡ part p.bytes (p.at + 4 + n) (32 * shape.successors) =
+    back ∙ ap (drop n) behind ∙ drop-drop n 4 (part p.bytes p.at size)
+    ∙ part_rest p.bytes p.at size (4 + n) (32 * shape.successors) (omega (arith, long))
+    ∙ ap (λ at. part p.bytes at (32 * shape.successors)) place in
+    let string_is : string ≡ part p.bytes p.at (string_length shape) = cut ∙ ap (part p.bytes p.at) long in
+    λ i. record { kind = kind; string = string_is i; numbers = first i; successors = second i; begins = p.at; ends = p.at + long i }
 
 -- a part behind a front
 pub part_behind : (front bytes : List ℕ) (at n : ℕ) → part (front ++ bytes) (length front + at) n ≡ part bytes at n

@@ -1,4 +1,5 @@
 pub mod Parts
+pub mod Faults
 pub mod Views
 pub mod Reading
 pub mod LookedFor

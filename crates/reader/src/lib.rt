@@ -3,7 +3,6 @@
 
 mod digest_lookup;
 mod fault;
-mod parts;
 mod reader;
 mod round_trips;
 mod view;

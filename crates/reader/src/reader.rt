@@ -1,11 +1,10 @@
 //! The reader of a proof.
 
-ghost use Rattle.std.specs.Prelude.{◌≡◌};
+ghost use Rattle.std.specs.Prelude.{◌≡◌, drop};
 ghost use Rattle.reader.specs.Reading.{bytes_left, finished, map_ok, opened, place_after, position_of, read_kind, read_string};
 ghost use Rattle.reader.specs.Views.{seen_in};
 
 use crate::fault::ReaderFault;
-use crate::parts::{part_of, uint_at};
 use crate::view::NodeView;
 use node::Shape;
 
@@ -40,10 +39,10 @@ impl<'a> Reader<'a> {
     pub fn read_kind(&self) -> Result<u32, ReaderFault>
         ensures { result ≡ read_kind (position_of self.now) }
     {
-        if self.left() < 4 {
+        let Some(word) = self.rest().first_chunk() else {
             return Err(ReaderFault::KindCutShort(self.at));
-        }
-        Ok(uint_at(self.bytes, self.at))
+        };
+        Ok(u32::from_be_bytes(*word))
     }
 
     /// The next string, whose shape is known by its kind. A refusal leaves the place as it was.
@@ -53,22 +52,23 @@ impl<'a> Reader<'a> {
         ensures proof { self.new.bytes ≡ self.old.bytes }
     {
         let kind = self.read_kind()?;
-        let numbers = 4 * usize::from(shape.numbers);
-        let successors = 32 * usize::from(shape.successors);
         let length = shape.string_length();
         if self.left() < length {
             return Err(ReaderFault::RestCutShort(self.at));
         }
-        let view = NodeView {
-            kind,
-            string: part_of(self.bytes, self.at, length),
-            numbers: part_of(self.bytes, self.at + 4, numbers),
-            successors: part_of(self.bytes, self.at + 4 + numbers, successors),
-            begins: self.at,
-            ends: self.at + length,
-        };
+        let (string, _) = self.rest().split_at(length);
+        let (_, parts) = string.split_at(4);
+        let (numbers, successors) = parts.split_at(4 * usize::from(shape.numbers));
+        let begins = self.at;
         self.at += length;
-        Ok(view)
+        Ok(NodeView {
+            kind,
+            string,
+            numbers,
+            successors,
+            begins,
+            ends: self.at,
+        })
     }
 
     /// Nothing more is to be read: bytes left over are refused.
@@ -84,6 +84,13 @@ impl<'a> Reader<'a> {
     fn left(&self) -> usize
         ensures { result ≡ bytes_left (position_of self.now) }
     {
-        self.bytes.len().saturating_sub(self.at)
+        self.rest().len()
+    }
+
+    /// The bytes from the place on.
+    fn rest(&self) -> &'a [u8]
+        ensures { result.now ≡ drop self.now.at self.now.bytes.now }
+    {
+        self.bytes.get(self.at..).unwrap_or(&[])
     }
 }

@@ -5,9 +5,10 @@ ghost use Rattle.reader.specs.LookedFor.{shown};
 ghost use Rattle.reader.specs.Parts.{numbers_in};
 ghost use Rattle.reader.specs.Views.{digest_at, digest_place_at, four_numbers, number_at, seen_in};
 
-use crate::parts::{int_at, part_of};
+use std::array;
 
-#[derive(Clone, Copy)]
+/// A proof may hold any number for a kind.
+#[derive(Clone, Copy, Debug, PartialEq, Eq)]
 pub struct NodeView<'a> {
     pub(crate) kind: u32,
     pub(crate) string: &'a [u8],
@@ -61,10 +62,9 @@ impl<'a> NodeView<'a> {
     pub fn number(&self, i: usize) -> Option<i32>
         ensures { result ≡ number_at (seen_in self.now) i }
     {
-        if i >= self.numbers.len() / 4 {
-            return None;
-        }
-        Some(int_at(self.numbers, 4 * i))
+        let (words, _) = self.numbers.as_chunks();
+        let word = words.get(i)?;
+        Some(i32::from_be_bytes(*word))
     }
 
     /// Its first four numbers; 0 stands for each that it has not.
@@ -72,22 +72,15 @@ impl<'a> NodeView<'a> {
         ensures answer { result ≡ four_numbers (seen_in self.now) }
         ensures cut { length (numbers_in self.now.numbers.now) ≤ 4 → take (length (numbers_in self.now.numbers.now)) result ≡ numbers_in self.now.numbers.now }
     {
-        [
-            self.number(0).unwrap_or(0),
-            self.number(1).unwrap_or(0),
-            self.number(2).unwrap_or(0),
-            self.number(3).unwrap_or(0),
-        ]
+        array::from_fn(|i| self.number(i).unwrap_or(0))
     }
 
     /// The digest of its successor at an index, if it has one.
-    pub fn digest(&self, i: usize) -> Option<&'a [u8]>
+    pub fn digest(&self, i: usize) -> Option<&'a [u8; 32]>
         ensures { shown result ≡ digest_at (seen_in self.now) i }
     {
-        if i >= self.successors.len() / 32 {
-            return None;
-        }
-        Some(part_of(self.successors, 32 * i, 32))
+        let (digests, _) = self.successors.as_chunks();
+        digests.get(i)
     }
 
     /// The place in the proof where that digest begins.

@@ -2,7 +2,6 @@ pub mod Numbers
 pub mod Places
 pub mod Kept
 pub mod Held
-pub mod Contents
 pub mod Outcome
 pub mod Holdable
 pub mod Taking

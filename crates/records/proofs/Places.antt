@@ -1,15 +1,17 @@
--- The search for the place of a number, from left to right.
-use Rattle.std.proofs.Common.{◌≡◌, ℕ, suc, ◌+◌, ◌<◌, List, ◌∷◌, length, get_or, drop, ℤ, Some, sym, ap, ◌∙◌, add-one, drop-cons}
-use Rattle.std.proofs.lemmas.Bool.{cond-true, cond-false}
-use Rattle.records.specs.Held.{place_from}
-use Rattle.records.proofs.Numbers.{same_yes, same_no}
+-- The place that a search for a number finds.
+use Rattle.std.proofs.Common.{◌≡◌, ℕ, suc, ◌+◌, cond, nat_lt, List, [], ◌∷◌, length, ℤ, Some, None, Option, sym, refl, ap, ◌∙◌, arith}
+use Rattle.std.specs.List.{position_from, position_or_len}
+use Rattle.std.proofs.lemmas.Iterator.Adapters.{position_from-zero}
+use Rattle.records.specs.Held.{same_number, place_from}
 
-module _ {R : Type 0} (number_of : R → ℤ) (n : ℤ) (rs : List R) (i : ℕ) (r : R) (inside : i < length rs) (is : r ≡ get_or rs i r) where
-  split : drop i rs ≡ r ∷ drop (suc i) rs
-  split = drop-cons rs i r inside ∙ ap (λ x. x ∷ drop (suc i) rs) (sym is)
+module _ {R : Type 0} (number_of : R → ℤ) (n : ℤ) where
+  places_agree : (k : ℕ) (rs : List R) → place_from k number_of n rs ≡ position_from (λ r. same_number (number_of r) n) k rs
+  places_agree k [] = refl
+  places_agree k (r ∷ rs) =
+      let next : suc k ≡ k + 1 = omega arith in
+      ap (λ o. cond (same_number (number_of r) n) (Some k) o) (places_agree (suc k) rs ∙ ap (λ m. position_from (λ s. same_number (number_of s) n) m rs) next)
 
-  pub place_here : number_of r ≡ n → place_from i number_of n (drop i rs) ≡ Some i
-  place_here e = ap (place_from i number_of n) split ∙ cond-true _ _ _ (same_yes _ _ e)
-
-  pub place_later : (number_of r ≡ n → ⊥) → place_from i number_of n (drop i rs) ≡ place_from (i + 1) number_of n (drop (i + 1) rs)
-  place_later e = ap (place_from i number_of n) split ∙ cond-false _ _ _ (same_no _ _ e) ∙ rw (add-one)
+  pub place_found : (rs : List R) (found : Option ℕ)
+      → found ≡ cond (nat_lt (position_or_len (λ r. same_number (number_of r) n) rs) (length rs)) (Some (position_or_len (λ r. same_number (number_of r) n) rs)) None
+      → found ≡ place_from 0 number_of n rs
+  place_found rs found is = is ∙ position_from-zero (λ r. same_number (number_of r) n) rs ∙ sym (places_agree 0 rs)

@@ -1,3 +1,4 @@
 pub mod Range
 pub mod Held
 pub mod Outcome
+pub mod Positions

@@ -1,11 +1,12 @@
 //! A coordinate in whole decimetres. No value of this type is out of range.
-ghost use Rattle.std.specs.Prelude.{◌≡◌, pos, negsuc, ◌≤ℤ◌};
+ghost use Rattle.std.specs.Prelude.{◌≡◌, pos, negsuc, ◌≤ℤ◌, ◌-ℤ◌};
 ghost use Rattle.std.specs.Option.{option_map};
 ghost use Rattle.records.specs.Range.{is_coordinate, kept_by};
 
 use crate::range::is_within;
+use std::ops::Sub;
 
-#[derive(Clone, Copy)]
+#[derive(Clone, Copy, PartialEq, Eq, PartialOrd, Ord)]
 pub struct Coordinate {
     value: i32,
     ghost least: { negsuc 499999 ≤ℤ value },
@@ -23,13 +24,13 @@ impl Coordinate {
     pub fn new(value: i64) -> Option<Coordinate>
         ensures { option_map (λ c. c.value) result ≡ kept_by is_coordinate value }
     {
-        if is_coordinate(value) {
-            Some(Coordinate {
-                value: value as i32,
-            })
-        } else {
-            None
+        if !is_coordinate(value) {
+            return None;
         }
+        Some(Coordinate {
+            // In range, so 32 bits hold it.
+            value: value as i32,
+        })
     }
 
     pub fn zero() -> Coordinate
@@ -48,5 +49,16 @@ impl Coordinate {
         ensures { result ≡ self.value }
     {
         self.value
+    }
+}
+
+/// How far east or north one coordinate is of another.
+impl Sub for Coordinate {
+    type Output = i64;
+
+    ghost sub_gives = { λ to from offset. offset ≡ to.value -ℤ from.value };
+
+    fn sub(self, from: Coordinate) -> i64 {
+        i64::from(self.value) - i64::from(from.value)
     }
 }

@@ -4,6 +4,7 @@
 
 pub mod coordinate;
 pub mod numbered;
+pub mod position;
 pub mod range;
 pub mod raw;
 pub mod record_number;

@@ -5,5 +5,5 @@ ghost use Rattle.records.specs.Range.{within};
 pub fn is_within(low: i64, high: i64, value: i64) -> bool
     ensures { result ≡ within low high value }
 {
-    low <= value && value <= high
+    (low..=high).contains(&value)
 }

@@ -3,7 +3,7 @@ ghost use Rattle.std.specs.Prelude.{◌≡◌, ◌<◌, pos};
 ghost use Rattle.std.specs.Option.{option_map};
 ghost use Rattle.records.specs.Range.{is_record_number, kept_by};
 
-#[derive(Clone, Copy)]
+#[derive(Clone, Copy, PartialEq, Eq, PartialOrd, Ord)]
 pub struct RecordNumber {
     value: u16,
     ghost positive: { 0 < value },
@@ -13,12 +13,11 @@ impl RecordNumber {
     pub fn new(value: i64) -> Option<RecordNumber>
         ensures { option_map (λ n. pos n.value) result ≡ kept_by is_record_number value }
     {
-        if value < 1 || value > 65_535 {
+        let value = u16::try_from(value).ok()?;
+        if value < 1 {
             return None;
         }
-        Some(RecordNumber {
-            value: value as u16,
-        })
+        Some(RecordNumber { value })
     }
 
     pub fn first() -> RecordNumber

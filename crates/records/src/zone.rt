@@ -8,8 +8,5 @@ pub type Zone = u16;
 pub fn zone_number(value: i64) -> Option<Zone>
     ensures { option_map pos result ≡ kept_by is_zone value }
 {
-    if value < 0 || value > 65_535 {
-        return None;
-    }
-    Some(value as Zone)
+    Zone::try_from(value).ok()
 }

@@ -1,10 +1,13 @@
 //! The table of refusals: why a call was turned down, one case for each reason.
 #![tactic(auto)]
 
-ghost use Rattle.std.specs.Prelude.{◌≡◌};
+ghost use Rattle.std.specs.Prelude.{◌≡◌, Some};
 ghost use Rattle.refusal.specs.Table.{number_of, words_of};
 
-#[derive(Clone, Copy, Debug)]
+use std::error::Error;
+use std::fmt;
+
+#[derive(Clone, Copy, Debug, PartialEq, Eq)]
 pub enum Refusal {
     FieldOutOfRange,
     NumberHeld,
@@ -28,12 +31,12 @@ pub enum Refusal {
     MessageTooLong,
 }
 
-impl Refusal {
-    /// Its number in the table, 1 to 20.
-    pub fn number(self) -> u8
-        ensures { result ≡ number_of self }
-    {
-        match self {
+/// Its number in the table, 1 to 20.
+impl From<Refusal> for u8 {
+    ghost from_gives = { λ refusal number. number ≡ number_of refusal };
+
+    fn from(refusal: Refusal) -> u8 {
+        match refusal {
             Refusal::FieldOutOfRange => 1,
             Refusal::NumberHeld => 2,
             Refusal::EdgeConflict => 3,
@@ -56,7 +59,9 @@ impl Refusal {
             Refusal::MessageTooLong => 20,
         }
     }
+}
 
+impl Refusal {
     /// The reason in words, as the program prints it.
     pub fn words(self) -> &'static str
         ensures { result.now ≡ words_of self }
@@ -89,3 +94,13 @@ impl Refusal {
         }
     }
 }
+
+impl fmt::Display for Refusal {
+    ghost output = { λ refusal. Some (words_of refusal) };
+
+    fn fmt<W: fmt::Write>(&self, f: &mut fmt::Formatter<W>) -> fmt::Result {
+        f.write_str(self.words())
+    }
+}
+
+impl Error for Refusal {}

@@ -1,8 +1,8 @@
 pub mod Magnitude
-pub mod Signs
 pub mod Pieces
 pub mod Growing
 pub mod Fields
 pub mod Sentences
 pub mod Decimal
 pub mod ReadAgain
+pub mod Spelled

@@ -1,8 +1,11 @@
 -- The words of a line from its first byte, or from its first word.
-use Rattle.std.proofs.Common.{◌≡◌, ℕ, ◌+◌, ◌-◌, ◌<◌, ◌≤◌, true, false, cond, ◌⊎◌, List, [], ◌∷◌, ◌++◌, length, get_or, take, drop, sym, refl, ap, ◌∙◌, subst, inl, inr, arith}
+use Rattle.std.proofs.Common.{◌≡◌, ℕ, suc, ◌+◌, ◌-◌, ◌<◌, ◌≤◌, Bool, true, false, not, cond, ◌||◌, ◌⊎◌, List, [], ◌∷◌, ◌++◌, length, get_or, take, drop, Option, Some, None, nat_lt, sym, refl, ap, ◌∙◌, subst, inl, inr, arith}
 use native.Mathlib.Nat.{sub-zero}
-use Rattle.std.proofs.lemmas.List.{at_drop_more, drop_more, drop_all, length-drop, length-take-le, take_more, take_rest}
-use Rattle.std.proofs.lemmas.Bool.{both_ways}
+use Rattle.std.proofs.lemmas.List.{drop_more, length-drop, length-take-le, take_rest}
+use Rattle.std.proofs.lemmas.List.Sums.{prefix_len-le-length}
+use Rattle.std.proofs.lemmas.Bool.{both_ways, cond_both, ltb-false}
+use Rattle.std.specs.List.{position_or_len}
+use Rattle.std.specs.Option.{unwrap_or}
 use Rattle.std.proofs.lemmas.Bool.Decides.{nat_tests}
 use Rattle.script.specs.Words.{before_first, begins_comment, is_separator, pieces, uncommented, without_empty, words_of}
 
@@ -57,35 +60,66 @@ words_of_word line (c ∷ w) rest some e ends =
     ap without_empty (e ∙ (ap (onto (c ∷ w)) p.1.0 ∙ onto_whole (c ∷ w) p.0))
     ∙ ap (λ ps. (c ∷ w) ∷ ps) p.1.1
 
--- The steps of the loops.
-pub separators_more : (line : List ℕ) (i : ℕ) → i < length line → is_separator (get_or line i 0) ≡ true → words_of (drop i line) ≡ words_of (drop (i + 1) line)
-separators_more line i h e = at_drop_more words_of line i 0 h ∙ ap without_empty (cut_separator (get_or line i 0) (drop (i + 1) line) e)
+-- The place of the first byte of a kind, or the line's length.
+pub found_or_len : (p : ℕ → Bool) (line : List ℕ) (found : Option ℕ) → found ≡ cond (nat_lt (position_or_len p line) (length line)) (Some (position_or_len p line)) None → unwrap_or found (length line) ≡ position_or_len p line
+found_or_len p line found e =
+    ap (λ o. unwrap_or o (length line)) e
+    ∙ cond_both (nat_lt (position_or_len p line) (length line)) (Some (position_or_len p line)) None (λ o. unwrap_or o (length line) ≡ position_or_len p line)
+    (λ _. refl) (λ past. omega (arith, ltb-false _ _ past, prefix_len-le-length (λ c. not (p c)) line))
 
-pub word_more : (line : List ℕ) (i : ℕ) → i < length line → is_separator (get_or line i 0) ≡ false → begins_comment (get_or line i 0) ≡ false → cut line ≡ onto (take i line) (cut (drop i line)) → cut line ≡ onto (take (i + 1) line) (cut (drop (i + 1) line))
-word_more line i h s e was =
-    was
-    ∙ (ap (onto (take i line)) (at_drop_more cut line i 0 h ∙ cut_plain (get_or line i 0) (drop (i + 1) line) s e)
-    ∙ (onto_push (take i line) (get_or line i 0) (cut (drop (i + 1) line))
-    ∙ ap (λ w. onto w (cut (drop (i + 1) line))) (sym (take_more line i 0 h))))
+one_more : (n : ℕ) → 1 + n ≡ suc n
+one_more n = omega arith
+
+-- Where the separators end that a line begins with.
+pub separators_skipped : (line : List ℕ) → words_of line ≡ words_of (drop (position_or_len (λ c. not (is_separator c)) line) line)
+separators_skipped [] = refl
+separators_skipped (c ∷ cs) = go (is_separator c) refl (separators_skipped cs)
+  where
+    go : (b : Bool) → is_separator c ≡ b → words_of cs ≡ words_of (drop (position_or_len (λ d. not (is_separator d)) cs) cs) → words_of (c ∷ cs) ≡ words_of (drop (cond (not (not b)) (1 + position_or_len (λ d. not (is_separator d)) cs) 0) (c ∷ cs))
+    go true e later = rw one_more (ap without_empty (cut_separator c cs e) ∙ later)
+    go false e later = refl
 
 -- Where the word ends that a line begins with.
-pub ends_at : (line : List ℕ) (i : ℕ) → i < length line → (is_separator (get_or line i 0) ≡ true) ⊎ (begins_comment (get_or line i 0) ≡ true) → Ends (drop i line)
-ends_at line i h e = subst Ends (sym (drop_more line i 0 h)) e
+abbrev pub ends_word : ℕ → Bool
+ends_word c = is_separator c || begins_comment c
 
-pub ends_past : (line : List ℕ) (i : ℕ) → length line ≤ i → Ends (drop i line)
-ends_past line i h = subst Ends (sym (drop_all i line h)) tt
+abbrev pub word_end : List ℕ → ℕ
+word_end line = position_or_len ends_word line
 
-pub word_ends : (line : List ℕ) (i : ℕ) → i ≤ length line → 0 < i → cut line ≡ onto (take i line) (cut (drop i line)) → Ends (drop i line) → words_of line ≡ take i line ∷ words_of (drop i line)
-word_ends line i within some e ends =
-    words_of_word line (take i line) (drop i line) (omega (arith, length-take-le i line within)) e ends
+pub word_cut : (line : List ℕ) → cut line ≡ onto (take (word_end line) line) (cut (drop (word_end line) line))
+word_cut [] = refl
+word_cut (c ∷ cs) = go (ends_word c) refl (word_cut cs)
+  where
+    go : (b : Bool) → ends_word c ≡ b → cut cs ≡ onto (take (word_end cs) cs) (cut (drop (word_end cs) cs)) → cut (c ∷ cs) ≡ onto (take (cond (not b) (1 + word_end cs) 0) (c ∷ cs)) (cut (drop (cond (not b) (1 + word_end cs) 0) (c ∷ cs)))
+    go true e later = refl
+    go false e later = rw one_more (cut_plain c cs (grind (arith, nat_tests)) (grind (arith, nat_tests)) ∙ ap (before_first c) later)
+
+ends_here : (c : ℕ) → ends_word c ≡ true → (is_separator c ≡ true) ⊎ (begins_comment c ≡ true)
+ends_here c e = go (is_separator c) refl e
+  where
+    go : (b : Bool) → is_separator c ≡ b → (b || begins_comment c) ≡ true → (is_separator c ≡ true) ⊎ (begins_comment c ≡ true)
+    go true s h = inl s
+    go false s h = inr h
+
+pub word_stops : (line : List ℕ) → Ends (drop (word_end line) line)
+word_stops [] = tt
+word_stops (c ∷ cs) = go (ends_word c) refl (word_stops cs)
+  where
+    go : (b : Bool) → ends_word c ≡ b → Ends (drop (word_end cs) cs) → Ends (drop (cond (not b) (1 + word_end cs) 0) (c ∷ cs))
+    go true e later = ends_here c e
+    go false e later = rw one_more later
+
+pub first_word : (line : List ℕ) → 0 < word_end line → words_of line ≡ take (word_end line) line ∷ words_of (drop (word_end line) line)
+first_word line some =
+    words_of_word line (take (word_end line) line) (drop (word_end line) line) (omega (arith, length-take-le (word_end line) line (prefix_len-le-length (λ c. not (ends_word c)) line))) (word_cut line) (word_stops line)
 
 no_word_here : (line : List ℕ) → (0 < length line → is_separator (get_or line 0 0) ≡ false) → Ends line → words_of line ≡ []
 no_word_here [] plain ends = refl
 no_word_here (c ∷ cs) plain (inl e) = absurd (both_ways (is_separator c) (plain (omega arith)) e)
 no_word_here (c ∷ cs) plain (inr e) = ap without_empty (cut_comment c cs e)
 
-pub no_word : (line : List ℕ) (i : ℕ) → i ≡ 0 → (0 < length line → is_separator (get_or line 0 0) ≡ false) → Ends (drop i line) → words_of line ≡ []
-no_word line i e plain ends = no_word_here line plain (subst (λ (n : ℕ). Ends (drop n line)) e ends)
+pub no_word : (line : List ℕ) → word_end line ≡ 0 → (0 < length line → is_separator (get_or line 0 0) ≡ false) → words_of line ≡ []
+no_word line e plain = no_word_here line plain (subst (λ (n : ℕ). Ends (drop n line)) e (word_stops line))
 
 -- The parts that a reader cuts from a line.
 pub first_kept : (line : List ℕ) (start : ℕ) → start ≤ length line → (start < length line → is_separator (get_or line start 0) ≡ false) → 0 < length (take (length line - start) (drop start line)) → is_separator (get_or (take (length line - start) (drop start line)) 0 0) ≡ false

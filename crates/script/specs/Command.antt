@@ -14,7 +14,7 @@ use Rattle.script.specs.declared.command.Command.{Command}
 use Rattle.script.specs.declared.command.Command.TheVariants.{Begin, AddEdge, AddSite, Remove, AnswerZone, AnswerSites, List as Records, Blank}
 use Rattle.script.specs.Number.{and_then}
 use Rattle.script.specs.Words.{words_of}
-use Rattle.script.specs.Fields.{with_number, at_end}
+use Rattle.script.specs.Fields.{at_end, first_point, first_rectangle, with_number}
 
 abbrev pub kind_named : List ℕ → Option ChartKind
 kind_named word =
@@ -57,19 +57,11 @@ read_site words =
 
 -- X Y
 abbrev pub read_point : List (List ℕ) → Option Point
-read_point words =
-    with_number words (λ x after-x.
-    with_number after-x (λ y rest.
-    at_end rest (record { x = x; y = y })))
+read_point words = and_then (first_point words) (λ p. at_end p.1 p.0)
 
 -- A B C D
 abbrev pub read_rectangle : List (List ℕ) → Option Rectangle
-read_rectangle words =
-    with_number words (λ a after-a.
-    with_number after-a (λ b after-b.
-    with_number after-b (λ c after-c.
-    with_number after-c (λ d rest.
-    at_end rest (record { west = a; east = b; south = c; north = d })))))
+read_rectangle words = and_then (first_rectangle words) (λ p. at_end p.1 p.0)
 
 abbrev pub read_add : ChartKind → List (List ℕ) → Option Command
 read_add Zone words = option_map AddEdge (read_edge words)

@@ -13,9 +13,12 @@ use Rattle.script.specs.declared.command.HashName.TheVariants.{Sha256, Blake2s}
 use Rattle.script.specs.declared.reply.Reply.{Reply}
 use Rattle.script.specs.declared.reply.Reply.TheVariants as reply
 
+abbrev pub after_space : List ℕ → List ℕ
+after_space text = 32 ∷ text
+
 -- A number in plain decimal, after a space.
 abbrev pub field : ℤ → List ℕ
-field z = 32 ∷ signed_decimal z
+field z = after_space (signed_decimal z)
 
 abbrev pub with_numbers : List ℕ → List ℤ → List ℕ
 with_numbers verb numbers = verb ++ flat_map field numbers

@@ -1,10 +1,10 @@
 //! Parts of a line, put at the end of what is written.
-ghost use Rattle.std.specs.Prelude.{◌++◌, pos, decimal};
-ghost use Rattle.std.specs.Fmt.{signed_decimal};
+ghost use Rattle.std.specs.Prelude.{◌++◌};
 ghost use Rattle.std.specs.List.{flat_map};
 ghost use Rattle.script.specs.Growth.{Grown};
-ghost use Rattle.script.specs.Lines.{field, line_of_sites, with_numbers};
+ghost use Rattle.script.specs.Lines.{after_space, line_of_sites};
 
+use itoa::{Buffer, Integer};
 use std::alloc::AllocError;
 
 pub fn append_text(out: &mut Vec<u8>, text: &[u8]) -> Result<(), AllocError>
@@ -21,30 +21,25 @@ pub fn append_pair(out: &mut Vec<u8>, first: &[u8], second: &[u8]) -> Result<(),
 }
 
 /// A number in plain decimal.
-pub fn append_digits(out: &mut Vec<u8>, number: u64) -> Result<(), AllocError>
-    ensures { Grown out.old (decimal number) result out.new }
+pub fn append_digits<I: Integer>(out: &mut Vec<u8>, number: I) -> Result<(), AllocError>
+    ensures { Grown out.old (I.text number) result out.new }
 {
-    if number < 10 {
-        return append_text(out, &[b'0' + number as u8]);
-    }
-    append_digits(out, number / 10)?;
-    append_text(out, &[b'0' + (number % 10) as u8])
+    let mut buffer = Buffer::new();
+    let digits = buffer.format(number).as_bytes();
+    append_text(out, digits)
 }
 
 /// A number after a space.
-pub fn append_field(out: &mut Vec<u8>, number: i64) -> Result<(), AllocError>
-    ensures { Grown out.old (field number) result out.new }
+pub fn append_field<I: Integer>(out: &mut Vec<u8>, number: I) -> Result<(), AllocError>
+    ensures { Grown out.old (after_space (I.text number)) result out.new }
 {
-    if number < 0 {
-        append_text(out, b" -")?;
-        return append_digits(out, number.unsigned_abs());
-    }
     append_text(out, b" ")?;
-    append_digits(out, number as u64)
+    append_digits(out, number)
 }
 
-fn append_fields(out: &mut Vec<u8>, numbers: &[i64]) -> Result<(), AllocError>
-    ensures { Grown out.old (flat_map field numbers.now) result out.new }
+/// Numbers, each after a space.
+pub fn append_fields<I: Integer>(out: &mut Vec<u8>, numbers: &[I]) -> Result<(), AllocError>
+    ensures { Grown out.old (flat_map (λ n. after_space (I.text n)) numbers.now) result out.new }
 {
     for number in numbers {
         append_field(out, *number)?;
@@ -53,32 +48,22 @@ fn append_fields(out: &mut Vec<u8>, numbers: &[i64]) -> Result<(), AllocError>
 }
 
 /// A word with numbers after it.
-pub(crate) fn append_words(
+pub fn append_words<I: Integer>(
     out: &mut Vec<u8>,
     verb: &[u8],
-    numbers: &[i64],
+    numbers: &[I],
 ) -> Result<(), AllocError>
-    ensures { Grown out.old (with_numbers verb.now numbers.now) result out.new }
+    ensures { Grown out.old (verb.now ++ flat_map (λ n. after_space (I.text n)) numbers.now) result out.new }
 {
     append_text(out, verb)?;
     append_fields(out, numbers)
 }
 
-pub fn append_each(out: &mut Vec<u8>, numbers: &[u16]) -> Result<(), AllocError>
-    ensures { Grown out.old (flat_map (λ m. field (pos m)) numbers.now) result out.new }
-{
-    for number in numbers {
-        append_field(out, *number as i64)?;
-    }
-    Ok(())
-}
-
 pub fn append_sites(out: &mut Vec<u8>, numbers: &[u16]) -> Result<(), AllocError>
     ensures { Grown out.old (line_of_sites numbers.now) result out.new }
 {
-    if numbers.len() == 0 {
+    if numbers.is_empty() {
         return append_text(out, b"sites none");
     }
-    append_text(out, b"sites")?;
-    append_each(out, numbers)
+    append_words(out, b"sites", numbers)
 }

@@ -1,13 +1,13 @@
 //! What a command line can ask for.
 use records::raw::{EdgeRecord, Point, Rectangle, SiteRecord};
 
-#[derive(Clone, Copy)]
+#[derive(Clone, Copy, Debug, PartialEq, Eq)]
 pub enum ChartKind {
     Zone,
     Site,
 }
 
-#[derive(Clone, Copy)]
+#[derive(Clone, Copy, Debug, PartialEq, Eq)]
 pub enum HashName {
     Sha256,
     Blake2s,

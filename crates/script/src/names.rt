@@ -6,27 +6,26 @@ ghost use Rattle.script.specs.Lines.{name_of_hash, name_of_kind};
 
 use crate::command::{ChartKind, HashName};
 
+// A line is bytes, so names are told and written as bytes, and not by `FromStr` and `Display`. Each table has its own two rows.
+
 pub fn kind_named(word: &[u8]) -> Option<ChartKind>
     ensures { result ≡ kind_named word.now }
 {
-    if same(word, b"zone") {
-        Some(ChartKind::Zone)
-    } else if same(word, b"site") {
-        Some(ChartKind::Site)
-    } else {
-        None
+    match word {
+        b"zone" => Some(ChartKind::Zone),
+        b"site" => Some(ChartKind::Site),
+        _ => None,
     }
 }
 
+#[tactic(auto, using(crate::proofs::Spelled::sha256_named, crate::proofs::Spelled::blake2s_named))]
 pub fn hash_named(word: &[u8]) -> Option<HashName>
     ensures { result ≡ hash_named word.now }
 {
-    if same(word, b"sha256") {
-        Some(HashName::Sha256)
-    } else if same(word, b"blake2s") {
-        Some(HashName::Blake2s)
-    } else {
-        None
+    match word {
+        b"sha256" => Some(HashName::Sha256),
+        b"blake2s" => Some(HashName::Blake2s),
+        _ => None,
     }
 }
 

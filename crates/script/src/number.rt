@@ -8,22 +8,18 @@ const LARGEST: u64 = 1 << 63;
 pub fn read_number(word: &[u8]) -> Option<i64>
     ensures { result ≡ number_of word.now }
 {
-    if word.len() > 0 && word[0] == b'-' {
-        let size = magnitude(&word[1..])?;
-        return Some((-(size as i128)) as i64);
+    match word {
+        [b'-', digits @ ..] => 0_i64.checked_sub_unsigned(magnitude(digits)?),
+        _ => i64::try_from(magnitude(word)?).ok(),
     }
-    let size = magnitude(word)?;
-    if size == LARGEST {
-        return None;
-    }
-    Some(size as i64)
 }
 
 /// The value of one or more digits, unless it is larger than the magnitude of any number.
+// Digit by digit, since `parse` takes a leading plus sign, which is no number here.
 fn magnitude(digits: &[u8]) -> Option<u64>
     ensures { result ≡ and_then (natural_of digits.now) (up_to 9223372036854775808) }
 {
-    if digits.len() == 0 {
+    if digits.is_empty() {
         return None;
     }
     let mut value: u64 = 0;
@@ -31,7 +27,7 @@ fn magnitude(digits: &[u8]) -> Option<u64>
         if *digit < b'0' || *digit > b'9' {
             return None;
         }
-        let unit = (*digit - b'0') as u64;
+        let unit = u64::from(*digit - b'0');
         if value > (LARGEST - unit) / 10 {
             return None;
         }

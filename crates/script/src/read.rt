@@ -1,13 +1,12 @@
 //! Reading a command line.
 ghost use Rattle.std.specs.Prelude.{◌≡◌, ◌<◌, ◌≤◌, ◌∷◌};
 ghost use Rattle.std.specs.Option.{option_map};
-ghost use Rattle.std.specs.Str.{bytes_eq};
 ghost use Rattle.script.specs.Command.{hash_of, read_add, read_answer, read_begin, read_command, read_edge, read_point, read_rectangle, read_remove, read_site, read_words};
 ghost use Rattle.script.specs.Fields.{at_end};
 ghost use Rattle.script.specs.Words.{words_of};
 
 use crate::command::{ChartKind, Command, HashName};
-use crate::names::{hash_named, kind_named, same};
+use crate::names::{hash_named, kind_named};
 use crate::words::Words;
 use records::raw::{EdgeRecord, Point, Rectangle, SiteRecord};
 
@@ -44,29 +43,22 @@ fn read_site(words: &mut Words) -> Option<SiteRecord>
     Some(SiteRecord { number, x, y })
 }
 
+// Records and questions have each their own words, and then the line ends.
+
 fn read_point(words: &mut Words) -> Option<Point>
     ensures { result ≡ read_point (words_of words.old.rest.now) }
 {
-    let x = words.number()?;
-    let y = words.number()?;
+    let point = words.point()?;
     words.end()?;
-    Some(Point { x, y })
+    Some(point)
 }
 
 fn read_rectangle(words: &mut Words) -> Option<Rectangle>
     ensures { result ≡ read_rectangle (words_of words.old.rest.now) }
 {
-    let west = words.number()?;
-    let east = words.number()?;
-    let south = words.number()?;
-    let north = words.number()?;
+    let rectangle = words.rectangle()?;
     words.end()?;
-    Some(Rectangle {
-        west,
-        east,
-        south,
-        north,
-    })
+    Some(rectangle)
 }
 
 fn read_begin(words: &mut Words) -> Option<Command>
@@ -87,6 +79,8 @@ fn read_hash(words: &mut Words) -> Option<HashName>
     words.end()?;
     Some(hash)
 }
+
+// The words after a verb are read by the chart at hand, which the words do not tell: one line for each kind of chart.
 
 fn read_add(kind: ChartKind, words: &mut Words) -> Option<Command>
     ensures { result ≡ read_add kind (words_of words.old.rest.now) }
@@ -124,18 +118,13 @@ fn read_list(words: &mut Words) -> Option<Command>
 fn read_after(verb: &[u8], kind: ChartKind, words: &mut Words) -> Option<Command>
     ensures { result ≡ read_words kind (verb.now ∷ words_of words.old.rest.now) }
 {
-    if same(verb, b"begin") {
-        read_begin(words)
-    } else if same(verb, b"add") {
-        read_add(kind, words)
-    } else if same(verb, b"remove") {
-        read_remove(words)
-    } else if same(verb, b"answer") {
-        read_answer(kind, words)
-    } else if same(verb, b"list") {
-        read_list(words)
-    } else {
-        None
+    match verb {
+        b"begin" => read_begin(words),
+        b"add" => read_add(kind, words),
+        b"remove" => read_remove(words),
+        b"answer" => read_answer(kind, words),
+        b"list" => read_list(words),
+        _ => None,
     }
 }
 

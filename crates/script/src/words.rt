@@ -1,10 +1,11 @@
 //! The words of a line, one after another, as parts of the line.
 ghost use Rattle.std.specs.Prelude.{◌≡◌, ◌<◌, ◌≤◌, false, [], ◌∷◌, length, take, drop, slice_index};
 ghost use Rattle.std.specs.Option.{option_map};
-ghost use Rattle.script.specs.Fields.{at_end, first_number};
+ghost use Rattle.script.specs.Fields.{at_end, first_number, first_point, first_rectangle};
 ghost use Rattle.script.specs.Words.{before_words, begins_comment, is_separator, words_of};
 
 use crate::number::read_number;
+use records::raw::{Point, Rectangle};
 
 /// What is still to be read of a line.
 #[derive(Drop)]
@@ -43,7 +44,34 @@ impl<'a> Words<'a> {
         read_number(word)
     }
 
-    /// There is a value where no word is left.
+    /// The next two words as a point.
+    pub fn point(&mut self) -> Option<Point>
+        ensures value { option_map (λ p. (p, words_of self.new.rest.now)) result ≡ first_point (words_of self.old.rest.now) }
+        ensures rest { words_of self.new.rest.now ≡ drop 2 (words_of self.old.rest.now) }
+    {
+        let x = self.number();
+        let y = self.number();
+        Some(Point { x: x?, y: y? })
+    }
+
+    /// The next four words as a rectangle.
+    pub fn rectangle(&mut self) -> Option<Rectangle>
+        ensures value { option_map (λ q. (q, words_of self.new.rest.now)) result ≡ first_rectangle (words_of self.old.rest.now) }
+        ensures rest { words_of self.new.rest.now ≡ drop 4 (words_of self.old.rest.now) }
+    {
+        let west = self.number();
+        let east = self.number();
+        let south = self.number();
+        let north = self.number();
+        Some(Rectangle {
+            west: west?,
+            east: east?,
+            south: south?,
+            north: north?,
+        })
+    }
+
+    /// A value where no word is left, so that a reader stops at any other word by `?`.
     pub fn end(&mut self) -> Option<()>
         ensures ends { result ≡ at_end (words_of self.old.rest.now) tt }
         ensures rest { words_of self.new.rest.now ≡ drop 1 (words_of self.old.rest.now) }
@@ -61,11 +89,9 @@ fn separators(line: &[u8]) -> usize
     ensures skips { words_of line.now ≡ words_of (drop result line.now) }
     ensures stops { result < length line.now → is_separator (slice_index line.now result) ≡ false }
 {
-    let mut at = 0;
-    while at < line.len() && is_separator(line[at]) {
-        at += 1;
-    }
-    at
+    line.iter()
+        .position(|byte| !is_separator(*byte))
+        .unwrap_or(line.len())
 }
 
 /// How long the word is that a line begins with, where it does not begin with a separator.
@@ -75,11 +101,9 @@ fn word_length(line: &[u8]) -> usize
     ensures none { result ≡ 0 → words_of line.now ≡ [] }
     ensures some { 0 < result → words_of line.now ≡ take result line.now ∷ words_of (drop result line.now) }
 {
-    let mut at = 0;
-    while at < line.len() && !is_separator(line[at]) && !begins_comment(line[at]) {
-        at += 1;
-    }
-    at
+    line.iter()
+        .position(|byte| is_separator(*byte) || begins_comment(*byte))
+        .unwrap_or(line.len())
 }
 
 fn is_separator(byte: u8) -> bool

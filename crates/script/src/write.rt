@@ -1,5 +1,6 @@
 //! Writing the line of a reply.
-ghost use Rattle.script.specs.Growth.{Appended, Finished, Grown};
+ghost use Rattle.std.specs.Fn.{FnOnceReturnsAtMut};
+ghost use Rattle.script.specs.Growth.{Appended, Grown, Puts};
 ghost use Rattle.script.specs.Lines.{ended, line_of, line_of_begun, line_of_edge, line_of_refusal, line_of_site, line_of_sites, line_of_unknown};
 
 use crate::append::{append_pair, append_sites, append_words};
@@ -20,7 +21,7 @@ fn append_begun(out: &mut Vec<u8>, kind: ChartKind, hash: HashName) -> Result<()
 fn append_refused(out: &mut Vec<u8>, refusal: Refusal) -> Result<(), AllocError>
     ensures { Grown out.old (line_of_refusal refusal) result out.new }
 {
-    append_words(out, b"refused", &[refusal.number() as i64])?;
+    append_words(out, b"refused", &[u8::from(refusal)])?;
     append_pair(out, b": ", refusal.words().as_bytes())
 }
 
@@ -44,51 +45,59 @@ fn append_reply(out: &mut Vec<u8>, reply: Reply) -> Result<(), AllocError>
         Reply::Begun { kind, hash } => append_begun(out, kind, hash),
         Reply::Added(number) => append_words(out, b"added", &[number]),
         Reply::Removed(number) => append_words(out, b"removed", &[number]),
-        Reply::InZone(zone) => append_words(out, b"zone", &[zone as i64]),
+        Reply::InZone(zone) => append_words(out, b"zone", &[zone]),
         Reply::Edge(edge) => append_edge(out, edge),
         Reply::Place(site) => append_site(out, site),
         Reply::Refused(refusal) => append_refused(out, refusal),
     }
 }
 
-/// Ends a line that began at `start`, or takes it back where memory failed.
-pub fn finish_line(
+/// The text that a call appends, and the line's end after it.
+fn append_ended<F: FnOnce(&mut Vec<u8>) -> Result<(), AllocError>>(
     out: &mut Vec<u8>,
-    start: usize,
-    written: Result<(), AllocError>,
+    append: F,
 ) -> Result<(), AllocError>
-    ensures { Finished out.old start written result out.new }
+    requires { F.IsAlwaysCallable append }
+    ensures { (text : _) → Puts (FnOnceReturnsAtMut F.FnOnce append out.old) out.old text → Grown out.old (ended text) result out.new }
 {
-    if written.is_ok() && out.extend_from_slice(b"\n").is_ok() {
-        return Ok(());
+    append(out)?;
+    out.extend_from_slice(b"\n")
+}
+
+/// Puts the line whose text a call appends after what is written. Where memory fails, all of the
+/// line is taken back.
+pub fn write_line<F: FnOnce(&mut Vec<u8>) -> Result<(), AllocError>>(
+    out: &mut Vec<u8>,
+    append: F,
+) -> Result<(), AllocError>
+    requires { F.IsAlwaysCallable append }
+    ensures { (text : _) → Puts (FnOnceReturnsAtMut F.FnOnce append out.old) out.old text → Appended out.old (ended text) result out.new }
+{
+    let start = out.len();
+    let written = append_ended(out, append);
+    if written.is_err() {
+        out.truncate(start);
     }
-    out.truncate(start);
-    Err(AllocError)
+    written
 }
 
 /// Puts the line of a reply after what is written.
 pub fn write_reply(out: &mut Vec<u8>, reply: Reply) -> Result<(), AllocError>
     ensures { Appended out.old (ended (line_of reply)) result out.new }
 {
-    let start = out.len();
-    let written = append_reply(out, reply);
-    finish_line(out, start, written)
+    write_line(out, |out| append_reply(out, reply))
 }
 
 /// Puts the numbers of the sites in a rectangle after what is written.
 pub fn write_sites(out: &mut Vec<u8>, numbers: &[u16]) -> Result<(), AllocError>
     ensures { Appended out.old (ended (line_of_sites numbers.now)) result out.new }
 {
-    let start = out.len();
-    let written = append_sites(out, numbers);
-    finish_line(out, start, written)
+    write_line(out, |out| append_sites(out, numbers))
 }
 
 /// Puts a line that is no command after what is written.
 pub fn write_unknown(out: &mut Vec<u8>, line: &[u8]) -> Result<(), AllocError>
     ensures { Appended out.old (ended (line_of_unknown line.now)) result out.new }
 {
-    let start = out.len();
-    let written = append_pair(out, b"unknown: ", line);
-    finish_line(out, start, written)
+    write_line(out, |out| append_pair(out, b"unknown: ", line))
 }

@@ -1,14 +1,13 @@
 -- The draft of a rose is its figure, record by record.
-use Rattle.std.proofs.Common.{◌≡◌, ℕ, suc, ◌≤◌, min, Bool, true, false, cond, eqb, leb, List, [], ◌∷◌, ◌++◌, map, length, take, drop, replicate, pos, Some, None, Ok, Err, Option, Result, sym, refl, ap, ◌∙◌, subst, arith}
-use Rattle.std.specs.List.{AllByRecursion}
+use Rattle.std.proofs.Common.{◌≡◌, ℕ, suc, ◌+◌, ◌<◌, ◌≤◌, min, Bool, true, cond, eqb, leb, List, [], ◌∷◌, ◌++◌, map, length, take, drop, replicate, pos, Some, None, Ok, Err, Option, Result, sym, refl, ap, ◌∙◌, subst, add-one, arith}
+use Rattle.std.specs.List.{AllByRecursion, position_from}
 use Rattle.std.proofs.ByRecursion.{All-push}
 use Rattle.std.proofs.lemmas.List.{take-take, take-append-le, take_all, map-append, length-map, take-map}
-use Rattle.std.proofs.lemmas.Bool.{and_parts, and_from}
+use Rattle.std.proofs.lemmas.Bool.{and_parts, and_from, cond-true, cond-false, le-leb, lt-leb}
 use Rattle.node.specs.declared.shape.Shape.{Shape}
 use Rattle.records.specs.Held.{same_number}
 use Rattle.refusal.specs.declared.Refusal.{Refusal}
-use Rattle.refusal.specs.declared.Refusal.TheVariants.{SheetTooSmall}
-use Rattle.search.specs.declared.drafting.Drawn.{Drawn}
+use Rattle.search.specs.declared.drafting.Draft.{Draft}
 use Rattle.search.specs.declared.sheet.SheetRecord.{SheetRecord}
 use Rattle.search.specs.Node.{Node}
 use Rattle.search.specs.Judging.{Judging}
@@ -18,11 +17,11 @@ use Rattle.search.specs.Rose.{Rose, Roses, grown, end, more, how_many}
 use Rattle.search.specs.Making.{agree, alike, alike_from, place_of_alike, Made, MadeEach, found_or_next, made_node, made, made_each, figure_of}
 use Rattle.search.specs.Sheet.{filled_to, record_of, usable, drawn_sheet, drawn_count}
 use Rattle.search.specs.Visit.{FitsWhole, FitEach}
-use Rattle.search.specs.Drafting.{alike_records, alike_record_from, Draft, DraftEach, found_or_added, drafted_record, drafted, drafted_each, drawn_so_far, sheet_with, draft_answer, counted, DraftsAreFigures}
+use Rattle.search.specs.Drafting.{alike_records, Drawn, DrawnEach, found_or_added, drafted_record, drafted, drafted_each, sheet_with, Draws, DrawsRose, DraftsAreFigures}
 use Rattle.search.proofs.Places.{some_same}
 use Rattle.search.proofs.Growing.{node, alike_same, eqb_same}
 use Rattle.search.proofs.Rooted.{root_is_last_lem}
-use Rattle.search.proofs.Sequences.{none_so_far}
+use Rattle.search.proofs.Sequences.{none_so_far, accepted, not_accepted}
 use Rattle.search.proofs.Finding.{decides_same, numbers_decide, places_decide, eqb_self}
 
 -- lists of one length that are alike when filled are equal
@@ -64,15 +63,15 @@ module _ {Q : Type 0} (judging : Judging Q) (well : JudgesWell judging) where
   alike_as_records n m here there =
       decides_same (n ≡ m) (alike_records (record_of n) (record_of m)) (alike n m) (records_same n m here there, λ e. records_refl (record_of n) (record_of m) (ap record_of e)) (alike_same n m, alike_refl n m)
 
-  found_as_records : (p : ℕ) (n : Node) (nodes : List Node) → Shaped judging n → AllByRecursion (Shaped judging) nodes → alike_record_from p (record_of n) (map record_of nodes) ≡ alike_from p n nodes
+  found_as_records : (p : ℕ) (n : Node) (nodes : List Node) → Shaped judging n → AllByRecursion (Shaped judging) nodes → position_from (alike_records (record_of n)) p (map record_of nodes) ≡ alike_from p n nodes
   found_as_records p n [] here all = refl
   found_as_records p n (m ∷ nodes) here all =
-      ap (λ (b : Bool). cond b (Some p) (alike_record_from (suc p) (record_of n) (map record_of nodes))) (alike_as_records n m here all.0) ∙ ap (cond (alike n m) (Some p)) (found_as_records (suc p) n nodes here all.1)
+      ap (λ (b : Bool). cond b (Some p) (position_from (alike_records (record_of n)) (p + 1) (map record_of nodes))) (alike_as_records n m here all.0) ∙ ap (λ (q : ℕ). cond (alike n m) (Some p) (position_from (alike_records (record_of n)) q (map record_of nodes))) (add-one p) ∙ ap (cond (alike n m) (Some p)) (found_as_records (suc p) n nodes here all.1)
 
-  abbrev draft_of : Made → Draft
+  abbrev draft_of : Made → Drawn
   draft_of m = record { records = map record_of m.nodes; place = m.place }
 
-  abbrev drafts_of : MadeEach → DraftEach
+  abbrev drafts_of : MadeEach → DrawnEach
   drafts_of m = record { records = map record_of m.nodes; places = m.places }
 
   draft_node : (nodes : List Node) (n : Node) → Shaped judging n → AllByRecursion (Shaped judging) nodes → (drafted_record (map record_of nodes) (record_of n) ≡ draft_of (made_node nodes n)) × AllByRecursion (Shaped judging) (made_node nodes n).nodes
@@ -105,7 +104,7 @@ module _ {Q : Type 0} (judging : Judging Q) (well : JudgesWell judging) where
         let each = draft_roses nodes rs all fits.1 in
         let shape : Shaped judging (node k zs (made_each nodes rs).places) = record { shape = fits.0.shape; known = fits.0.judgeable.known; numbers = fits.0.judgeable.counted; successors = each.many ∙ fits.0.joined } in
         let here = draft_node (made_each nodes rs).nodes (node k zs (made_each nodes rs).places) shape each.shaped in
-        record { same = ap (λ (d : DraftEach). drafted_record d.records (record_of (node k zs d.places))) each.same ∙ here.0; shaped = here.1 }
+        record { same = ap (λ (d : DrawnEach). drafted_record d.records (record_of (node k zs d.places))) each.same ∙ here.0; shaped = here.1 }
 
     pub draft_roses : (nodes : List Node) (rs : Roses) → AllByRecursion (Shaped judging) nodes → FitEach judging rs → AreDrafts nodes rs
     draft_roses nodes end all fits = record { same = refl; shaped = all; many = refl }
@@ -113,7 +112,7 @@ module _ {Q : Type 0} (judging : Judging Q) (well : JudgesWell judging) where
         let first = draft_rose nodes r all fits.0 in
         let rest = draft_roses (made nodes r).nodes rs first.shaped fits.1 in
         record {
-          same = ap (λ (d : Draft). record { records = (drafted_each d.records rs).records; places = d.place ∷ (drafted_each d.records rs).places }) first.same ∙ ap (λ (d : DraftEach). record { records = d.records; places = (made nodes r).place ∷ d.places }) rest.same;
+          same = ap (λ (d : Drawn). record { records = (drafted_each d.records rs).records; places = d.place ∷ (drafted_each d.records rs).places }) first.same ∙ ap (λ (d : DrawnEach). record { records = d.records; places = (made nodes r).place ∷ d.places }) rest.same;
           shaped = rest.shaped;
           many = ap suc rest.many;
         }
@@ -128,20 +127,30 @@ pub drawn_sheet_lem : (figure : List Node) (sheet : List SheetRecord) → sheet_
 drawn_sheet_lem figure sheet =
     ap (λ (t : List SheetRecord). t ++ drop (min (usable sheet) (length (map record_of figure))) sheet) (take-map record_of (usable sheet) figure) ∙ ap (λ (n : ℕ). map record_of (take (usable sheet) figure) ++ drop (min (usable sheet) n) sheet) (length-map figure record_of)
 
-pub drawn_count_lem : (figure : List Node) (sheet : List SheetRecord) (place : ℕ) → counted (draft_answer sheet (record { records = map record_of figure; place = place })) ≡ drawn_count figure sheet
-drawn_count_lem figure sheet place =
-    ap (λ (n : ℕ). counted (cond (leb n (usable sheet)) (Ok (record { place = place; len = n })) (Err SheetTooSmall))) (length-map figure record_of) ∙ inside (leb (length figure) (usable sheet))
-  where
-    inside : (b : Bool) → counted (cond b (Ok (record { place = place; len = length figure })) (Err SheetTooSmall)) ≡ cond b (Ok (length figure)) (Err SheetTooSmall)
-    inside true = refl
-    inside false = refl
+-- a chart's rose drawn into a draft that nothing was drawn into
+module _ {Q : Type 0} (judging : Judging Q) (well : JudgesWell judging) (r : Rose) (fits : FitsWhole judging r) (sheet : List SheetRecord) (before after : Draft) (untouched : before.sheet.now ≡ sheet) (none : before.len ≡ 0) where
+  abbrev whole : Drawn
+  whole = record { records = map record_of (figure_of r); place = root_of (figure_of r) }
 
--- what drawing a chart's rose from the first record on answers and leaves
-pub whole_drawn : {Q : Type 0} (judging : Judging Q) → JudgesWell judging → (r : Rose) → FitsWhole judging r → (sheet : List SheetRecord) (answer : Result Drawn Refusal) (left : List SheetRecord)
-    → answer ≡ draft_answer sheet (drafted (drawn_so_far 0 sheet) r) → left ≡ sheet_with sheet (drafted (drawn_so_far 0 sheet) r).records
-    → (counted answer ≡ drawn_count (figure_of r) sheet) × (left ≡ drawn_sheet (figure_of r) sheet)
-whole_drawn judging well r fits sheet answer left answered leaves =
-    let draft = ap (λ (t : List SheetRecord). drafted t r) (none_so_far sheet) ∙ drafts_are_figures_lem judging well r fits in (
-      ap counted (answered ∙ ap (draft_answer sheet) draft) ∙ drawn_count_lem (figure_of r) sheet (root_of (figure_of r)),
-      leaves ∙ ap (λ (d : Draft). sheet_with sheet d.records) draft ∙ drawn_sheet_lem (figure_of r) sheet,
-    )
+  told_whole : (answer : Result ℕ Refusal) → DrawsRose before after answer r → Draws before after answer whole
+  told_whole answer told = subst (Draws before after answer) (ap (λ (t : List SheetRecord). drafted t r) (none_so_far before none) ∙ drafts_are_figures_lem judging well r fits) told
+
+  many : length (map record_of (figure_of r)) ≡ length (figure_of r)
+  many = length-map (figure_of r) record_of
+
+  pub whole_leaves : (answer : Result ℕ Refusal) → DrawsRose before after answer r → after.sheet.now ≡ drawn_sheet (figure_of r) sheet
+  whole_leaves answer told = (told_whole answer told).leaves ∙ drawn_sheet_lem (figure_of r) before.sheet.now ∙ ap (drawn_sheet (figure_of r)) untouched
+
+  pub whole_counted : (place : ℕ) → DrawsRose before after (Ok place) r → Ok after.len ≡ drawn_count (figure_of r) sheet
+  whole_counted place told =
+      let whole-told = told_whole (Ok place) told in
+      let small = (accepted before after whole place whole-told).fits in
+      let len : after.len ≡ length (figure_of r) = omega (arith, whole-told.counts, small, many) in
+      let room : length (figure_of r) ≤ usable sheet = omega (arith, small, many, ap usable untouched) in
+      ap Ok len ∙ sym (cond-true _ _ _ (le-leb _ _ room))
+
+  pub whole_refused : (e : Refusal) → DrawsRose before after (Err e) r → Err e ≡ drawn_count (figure_of r) sheet
+  whole_refused e told =
+      let is = not_accepted before after whole e (told_whole (Err e) told) in
+      let full : usable sheet < length (figure_of r) = omega (arith, is.1, many, ap usable untouched) in
+      ap Err is.0 ∙ sym (cond-false (leb (length (figure_of r)) (usable sheet)) _ _ (lt-leb _ _ full))

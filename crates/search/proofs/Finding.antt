@@ -1,22 +1,10 @@
--- The search for an alike record, from left to right.
-use Rattle.std.proofs.Common.{◌≡◌, ℕ, suc, ◌+◌, ◌<◌, Bool, true, false, eqb, List, [], ◌∷◌, length, get_or, drop, ℤ, Some, Decides, sym, refl, ap, ◌∙◌, subst, add-one, arith, drop-cons}
+-- Likeness is equality.
+use Rattle.std.proofs.Common.{◌≡◌, ℕ, Bool, true, false, eqb, List, [], ◌∷◌, ℤ, Decides, sym, refl, subst, arith}
 use Rattle.std.proofs.lemmas.Int.{ints}
-use Rattle.std.proofs.lemmas.Bool.{cond-true, cond-false, and_from}
+use Rattle.std.proofs.lemmas.Bool.{and_from}
 use Rattle.records.specs.Held.{same_number}
-use Rattle.search.specs.declared.sheet.SheetRecord.{SheetRecord}
 use Rattle.search.specs.Making.{agree}
-use Rattle.search.specs.Drafting.{alike_records, alike_record_from}
 use Rattle.search.proofs.Growing.{agree_same, eqb_same, numbers_same}
-
-module _ (sought : SheetRecord) (records : List SheetRecord) (i : ℕ) (d : SheetRecord) (inside : i < length records) where
-  split : drop i records ≡ get_or records i d ∷ drop (suc i) records
-  split = drop-cons records i d inside
-
-  pub alike_here : true ≡ alike_records sought (get_or records i d) → alike_record_from i sought (drop i records) ≡ Some i
-  alike_here e = ap (alike_record_from i sought) split ∙ cond-true _ _ _ (sym e)
-
-  pub alike_later : false ≡ alike_records sought (get_or records i d) → alike_record_from i sought (drop i records) ≡ alike_record_from (i + 1) sought (drop (i + 1) records)
-  alike_later e = ap (alike_record_from i sought) split ∙ cond-false _ _ _ (sym e) ∙ rw (add-one)
 
 -- two tests that decide the same are equal
 pub decides_same : (P : Type 0) (a b : Bool) → Decides a P → Decides b P → a ≡ b

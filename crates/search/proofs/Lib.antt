@@ -6,5 +6,8 @@ pub mod Members
 pub mod Bytes
 pub mod Finding
 pub mod Drafts
+pub mod Filled
 pub mod Figures
 pub mod Sequences
+pub mod Shapes
+pub mod Successors

@@ -1,20 +1,21 @@
--- Drawing goes on where it stopped: one drawing call after another on one sheet.
-use Rattle.std.proofs.Common.{◌≡◌, ℕ, ◌<◌, ◌≤◌, min, cond, leb, List, [], ◌∷◌, ◌++◌, length, take, drop, Some, None, Ok, Err, Option, Result, sym, refl, ap, ◌∙◌, ⊎_elim, append_assoc, arith, length-append}
+-- Drawing goes on where it stopped: one drawing call after another on one draft.
+use Rattle.std.proofs.Common.{◌≡◌, ℕ, ◌<◌, ◌≤◌, min, cond, leb, List, [], ◌∷◌, ◌++◌, length, take, drop, Some, None, Ok, Err, Option, Result, true, false, subst, sym, refl, ap, ◌∙◌, ⊎_elim, append_assoc, arith, length-append}
 use Rattle.std.proofs.lemmas.List.{append-nil, length-take, length-drop, take_all, take-append-le}
 use Rattle.std.proofs.lemmas.Slice.{drop-append-drop}
+use Rattle.std.specs.Result.{IsErrAnd}
+use Rattle.std.proofs.lemmas.Result.{err_from_is_err_and}
 use Rattle.std.proofs.lemmas.Bool.{cases_Bool, cond-true, cond-false, lt-leb, leb-true, leb-false}
 use Rattle.refusal.specs.declared.Refusal.{Refusal}
 use Rattle.refusal.specs.declared.Refusal.TheVariants.{SheetTooSmall}
 use Rattle.search.specs.declared.sheet.SheetRecord.{SheetRecord}
-use Rattle.search.specs.declared.drafting.Drawn.{Drawn}
+use Rattle.search.specs.declared.drafting.Draft.{Draft}
 use Rattle.search.specs.Rose.{Rose, Roses, grown, end, more}
 use Rattle.search.specs.Sheet.{record_of, usable}
-use Rattle.search.specs.Drafting.{place_of_alike_record, Draft, found_or_added, drafted_record, drafted, drafted_each, drawn_so_far, sheet_with, draft_answer}
+use Rattle.search.specs.Drafting.{place_of_alike_record, Drawn, found_or_added, drafted_record, drafted, drafted_each, drawn_so_far, sheet_with, drawn_in, Draws}
 use Rattle.search.proofs.Growing.{node}
-use Rattle.search.proofs.Drafts.{Outcome}
 
 -- drawing only adds records
-abbrev pub Grows : (List SheetRecord → Draft) → Type 0
+abbrev pub Grows : (List SheetRecord → Drawn) → Type 0
 Grows draw = (records : List SheetRecord) → (new : List SheetRecord) × ((draw records).records ≡ records ++ new)
 
 found_grows : (records : List SheetRecord) (added : SheetRecord) (o : Option ℕ) → (new : List SheetRecord) × ((found_or_added records added o).records ≡ records ++ new)
@@ -71,74 +72,89 @@ module _ (sheet records : List SheetRecord) where
       ap (λ (t : List SheetRecord). t ++ drop (min (usable sheet) (length records)) sheet) (sym (take-append-le (usable sheet) records new (omega arith)))
       ∙ ap (λ (n : ℕ). take (usable sheet) (records ++ new) ++ drop n sheet) same
 
--- what an answer says of the draft
-pub accepted : (sheet : List SheetRecord) (draft : Draft) (x : Drawn) → Ok x ≡ draft_answer sheet draft → (x ≡ record { place = draft.place; len = length draft.records }) × (length draft.records ≤ usable sheet)
-accepted sheet draft x h =
-    ⊎_elim
-    (λ t. let e : Ok x ≡ Ok (record { place = draft.place; len = length draft.records }) = h ∙ cond-true _ _ _ t in (unwrapped x _ e, leb-true _ _ t))
-    (λ f. let e : Ok x ≡ Err SheetTooSmall = h ∙ cond-false _ _ _ f in absurd (apart x e))
-    (cases_Bool (leb (length draft.records) (usable sheet)))
-  where
-    unwrapped : (x y : Drawn) → ◌≡◌ {A = Result Drawn Refusal} (Ok x) (Ok y) → x ≡ y
-    unwrapped x y e = cc
+-- what an accepted drawing says
+pub record Accepted (before after : Draft) (place : ℕ) (drawn : Drawn) : Type 0 where
+  pub is_place : place ≡ drawn.place
+  pub fits : length drawn.records ≤ usable before.sheet.now
+  pub so_far : drawn_in after ≡ drawn.records
 
-    apart : (x : Drawn) → Ok x ≡ Err SheetTooSmall → ⊥
-    apart x e = let z : ◌≡◌ {A = ℕ} 0 1 = cc in omega arith
+module _ (before after : Draft) (drawn : Drawn) where
+  pub accepted : (place : ℕ) → Draws before after (Ok place) drawn → Accepted before after place drawn
+  accepted place told = ⊎_elim inside outside (cases_Bool (leb (length drawn.records) (usable before.sheet.now)))
+    where
+      inside : leb (length drawn.records) (usable before.sheet.now) ≡ true → Accepted before after place drawn
+      inside t =
+          let e : ◌≡◌ {A = Result ℕ Refusal} (Ok place) (Ok drawn.place) = told.answered ∙ cond-true _ _ _ t in
+          let small = leb-true (length drawn.records) (usable before.sheet.now) t in
+          let many : after.len ≡ length drawn.records = omega (arith, told.counts, small) in
+          record {
+            is_place = unwrapped place drawn.place e;
+            fits = small;
+            so_far = ap (λ (n : ℕ). drawn_so_far n after.sheet.now) many ∙ ap (drawn_so_far (length drawn.records)) told.leaves ∙ so_far before.sheet.now drawn.records small;
+          }
+        where
+          unwrapped : (x y : ℕ) → ◌≡◌ {A = Result ℕ Refusal} (Ok x) (Ok y) → x ≡ y
+          unwrapped x y e = cc
 
-pub not_accepted : (sheet : List SheetRecord) (draft : Draft) (e : Refusal) → Err e ≡ draft_answer sheet draft → (e ≡ SheetTooSmall) × (usable sheet < length draft.records)
-not_accepted sheet draft e h =
-    ⊎_elim
-    (λ t. let g : Err e ≡ Ok (record { place = draft.place; len = length draft.records }) = h ∙ cond-true _ _ _ t in absurd (apart _ e g))
-    (λ f. let g : Err e ≡ Err SheetTooSmall = h ∙ cond-false _ _ _ f in (unwrapped e SheetTooSmall g, leb-false _ _ f))
-    (cases_Bool (leb (length draft.records) (usable sheet)))
-  where
-    unwrapped : (x y : Refusal) → ◌≡◌ {A = Result Drawn Refusal} (Err x) (Err y) → x ≡ y
-    unwrapped x y g = cc
+      outside : leb (length drawn.records) (usable before.sheet.now) ≡ false → Accepted before after place drawn
+      outside f = absurd (apart place (told.answered ∙ cond-false _ _ _ f))
+        where
+          apart : (x : ℕ) → ◌≡◌ {A = Result ℕ Refusal} (Ok x) (Err SheetTooSmall) → ⊥
+          apart x e = let z : ◌≡◌ {A = ℕ} 0 1 = cc in omega arith
 
-    apart : (x : Drawn) (e : Refusal) → Err e ≡ Ok x → ⊥
-    apart x e g = let z : ◌≡◌ {A = ℕ} 0 1 = cc in omega arith
+  pub not_accepted : (e : Refusal) → Draws before after (Err e) drawn → (e ≡ SheetTooSmall) × (usable before.sheet.now < length drawn.records)
+  not_accepted e told =
+      ⊎_elim
+      (λ t. absurd (apart drawn.place e (told.answered ∙ cond-true _ _ _ t)))
+      (λ f. (unwrapped e SheetTooSmall (told.answered ∙ cond-false _ _ _ f), leb-false _ _ f))
+      (cases_Bool (leb (length drawn.records) (usable before.sheet.now)))
+    where
+      unwrapped : (x y : Refusal) → ◌≡◌ {A = Result ℕ Refusal} (Err x) (Err y) → x ≡ y
+      unwrapped x y g = cc
 
--- after an accepted drawing, the next one: its answer and what it leaves, told of the sheet as it was before both
-pub next : (sheet : List SheetRecord) (first : Draft) (x : Drawn) → Ok x ≡ draft_answer sheet first
-    → (draw : List SheetRecord → Draft) → Grows draw
-    → (answer : Result Drawn Refusal) (left : List SheetRecord)
-    → Outcome (sheet_with sheet first.records) (draw (drawn_so_far x.len (sheet_with sheet first.records))) answer left
-    → Outcome sheet (draw first.records) answer left
-next sheet first x h draw grows answer left outcome =
-    let is = accepted sheet first x h in
-    let place : drawn_so_far x.len (sheet_with sheet first.records) ≡ first.records = ap (λ (d : Drawn). drawn_so_far d.len (sheet_with sheet first.records)) is.0 ∙ so_far sheet first.records is.1 in
+      apart : (x : ℕ) (e : Refusal) → ◌≡◌ {A = Result ℕ Refusal} (Err e) (Ok x) → ⊥
+      apart x e g = let z : ◌≡◌ {A = ℕ} 0 1 = cc in omega arith
+
+-- after an accepted drawing, the next one, told of the draft as it was before both
+pub next : (before middle after : Draft) (first : Drawn) (place : ℕ) → Draws before middle (Ok place) first
+    → (draw : List SheetRecord → Drawn) → Grows draw
+    → (answer : Result ℕ Refusal) → Draws middle after answer (draw (drawn_in middle)) → Draws before after answer (draw first.records)
+next before middle after first place told draw grows answer then =
+    let sheet = before.sheet.now in
+    let more = draw first.records in
     let grown-by = grows first.records in
+    let later = subst (λ (t : List SheetRecord). Draws middle after answer (draw t)) (accepted before middle first place told).so_far then in
+    let room : usable middle.sheet.now ≡ usable sheet = ap usable told.leaves ∙ usable_kept sheet first.records in
     record {
-      answered = outcome.answered ∙ ap (λ (t : List SheetRecord). draft_answer (sheet_with sheet first.records) (draw t)) place ∙ ap (λ (u : ℕ). cond (leb (length (draw first.records).records) u) (Ok (record { place = (draw first.records).place; len = length (draw first.records).records })) (Err SheetTooSmall)) (usable_kept sheet first.records);
-      leaves = outcome.leaves ∙ ap (λ (t : List SheetRecord). sheet_with (sheet_with sheet first.records) (draw t).records) place ∙ ap (sheet_with (sheet_with sheet first.records)) grown-by.1 ∙ drawn_on sheet first.records grown-by.0 ∙ ap (sheet_with sheet) (sym grown-by.1);
+      same_sheet = later.same_sheet ∙ told.same_sheet;
+      answered = later.answered ∙ ap (λ (u : ℕ). cond (leb (length more.records) u) (Ok more.place) (Err SheetTooSmall)) room;
+      leaves = later.leaves ∙ ap (λ (t : List SheetRecord). sheet_with t more.records) told.leaves ∙ ap (sheet_with (sheet_with sheet first.records)) grown-by.1 ∙ drawn_on sheet first.records grown-by.0 ∙ ap (sheet_with sheet) (sym grown-by.1);
+      counts = later.counts ∙ ap (λ (u : ℕ). min u (length more.records)) room;
     }
 
--- the same, as calls tell it: what the first left is a sheet of its own
-pub next_call : (sheet after : List SheetRecord) (first : Draft) (x : Drawn) → Ok x ≡ draft_answer sheet first → after ≡ sheet_with sheet first.records
-    → (draw : List SheetRecord → Draft) → Grows draw
-    → (answer : Result Drawn Refusal) (left : List SheetRecord)
-    → answer ≡ draft_answer after (draw (drawn_so_far x.len after)) → left ≡ sheet_with after (draw (drawn_so_far x.len after)).records
-    → Outcome sheet (draw first.records) answer left
-next_call sheet after first x h is draw grows answer left answered leaves =
-    next sheet first x h draw grows answer left (record {
-      answered = answered ∙ ap (λ (t : List SheetRecord). draft_answer t (draw (drawn_so_far x.len t))) is;
-      leaves = leaves ∙ ap (λ (t : List SheetRecord). sheet_with t (draw (drawn_so_far x.len t)).records) is;
-    })
-
 -- after a refused drawing nothing else is drawn: the whole is refused, and leaves the same
-pub stop : (sheet : List SheetRecord) (first : Draft) (e : Refusal) → Err e ≡ draft_answer sheet first
-    → (draw : List SheetRecord → Draft) → Grows draw → Outcome sheet (draw first.records) (Err e) (sheet_with sheet first.records)
-stop sheet first e h draw grows =
-    let is = not_accepted sheet first e h in
+pub stop : (before after : Draft) (first : Drawn) (e : Refusal) → Draws before after (Err e) first
+    → (draw : List SheetRecord → Drawn) → Grows draw → Draws before after (Err e) (draw first.records)
+stop before after first e told draw grows =
+    let sheet = before.sheet.now in
+    let is = not_accepted before after first e told in
     let grown-by = grows first.records in
     let long : usable sheet < length (draw first.records).records = omega (arith, is.1, ap length grown-by.1, length-append first.records grown-by.0) in
     record {
+      same_sheet = told.same_sheet;
       answered = ap Err is.0 ∙ sym (cond-false (leb (length (draw first.records).records) (usable sheet)) _ _ (lt-leb _ _ long));
-      leaves = full_stays sheet first.records grown-by.0 is.1 ∙ ap (sheet_with sheet) (sym grown-by.1);
+      leaves = told.leaves ∙ full_stays sheet first.records grown-by.0 is.1 ∙ ap (sheet_with sheet) (sym grown-by.1);
+      counts = omega (arith, told.counts, is.1, long);
     }
 
+-- a refusal passed on
+pub passed_on : (before after : Draft) (drawn : Drawn) (e : Refusal) (answer : Result ℕ Refusal) → IsErrAnd answer (λ f. f ≡ e) → Draws before after (Err e) drawn → Draws before after answer drawn
+passed_on before after drawn e answer is told =
+    let q = err_from_is_err_and answer is in
+    record { same_sheet = told.same_sheet; answered = q.1 ∙ ap Err q.2 ∙ told.answered; leaves = told.leaves; counts = told.counts }
+
 -- before the first drawing nothing is drawn
-pub none_so_far : (sheet : List SheetRecord) → drawn_so_far 0 sheet ≡ []
-none_so_far sheet =
-    let zero-least : min 0 (usable sheet) ≡ 0 = omega arith in
-    ap (λ (n : ℕ). take n sheet) zero-least
+pub none_so_far : (draft : Draft) → draft.len ≡ 0 → drawn_in draft ≡ []
+none_so_far draft none =
+    let least : min draft.len (usable draft.sheet.now) ≡ 0 = omega (arith, none) in
+    ap (λ (n : ℕ). take n draft.sheet.now) least

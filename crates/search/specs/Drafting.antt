@@ -1,10 +1,11 @@
 -- Roses drawn record by record into a sheet: what a drawing call answers, and what it leaves.
-use Rattle.std.specs.Prelude.{◌≡◌, ℕ, suc, min, Bool, cond, ◌&&◌, List, [], ◌∷◌, ◌++◌, map, length, take, drop, Some, None, Ok, Err, Option, Result, ◌==◌, nat_eq, nat_le}
+use Rattle.std.specs.Prelude.{◌≡◌, ℕ, min, Bool, cond, ◌&&◌, List, [], ◌∷◌, ◌++◌, map, length, take, drop, Some, None, Ok, Err, Option, Result, ◌==◌, nat_eq, nat_le}
+use Rattle.std.specs.List.{position_from}
 use Rattle.refusal.specs.declared.Refusal.{Refusal}
 use Rattle.refusal.specs.declared.Refusal.TheVariants.{SheetTooSmall}
 use Rattle.records.specs.Held.{same_number}
 use Rattle.search.specs.declared.sheet.SheetRecord.{SheetRecord}
-use Rattle.search.specs.declared.drafting.Drawn.{Drawn}
+use Rattle.search.specs.declared.drafting.Draft.{Draft}
 use Rattle.search.specs.Rose.{Rose, Roses, grown, end, more}
 use Rattle.search.specs.Figure.{root_of}
 use Rattle.search.specs.Judging.{Judging}
@@ -18,39 +19,35 @@ abbrev pub alike_records : SheetRecord → SheetRecord → Bool
 alike_records sought other =
     (sought.kind == other.kind) && (agree same_number sought.numbers other.numbers && agree nat_eq sought.successors other.successors)
 
--- The first place of an alike record, counted from the place given.
-abbrev pub alike_record_from : ℕ → SheetRecord → List SheetRecord → Option ℕ
-alike_record_from place sought [] = None
-alike_record_from place sought (other ∷ others) = cond (alike_records sought other) (Some place) (alike_record_from (suc place) sought others)
-
+-- The first place of an alike record.
 abbrev pub place_of_alike_record : SheetRecord → List SheetRecord → Option ℕ
-place_of_alike_record sought records = alike_record_from 0 sought records
+place_of_alike_record sought records = position_from (alike_records sought) 0 records
 
 -- The records drawn so far, and the place of the last one asked for.
-pub record Draft : Type 0 where
+pub record Drawn : Type 0 where
   pub records : List SheetRecord
   pub place : ℕ
 
-abbrev pub found_or_added : List SheetRecord → SheetRecord → Option ℕ → Draft
+abbrev pub found_or_added : List SheetRecord → SheetRecord → Option ℕ → Drawn
 found_or_added records added (Some place) = record { records = records; place = place }
 found_or_added records added None = record { records = records ++ added ∷ []; place = length records }
 
 -- One more record: an alike one drawn earlier is that one.
-abbrev pub drafted_record : List SheetRecord → SheetRecord → Draft
+abbrev pub drafted_record : List SheetRecord → SheetRecord → Drawn
 drafted_record records added = found_or_added records added (place_of_alike_record added records)
 
-pub record DraftEach : Type 0 where
+pub record DrawnEach : Type 0 where
   pub records : List SheetRecord
   pub places : List ℕ
 
 -- One more rose, its successors first, and several in their order.
 abbrev mutual
-  pub drafted : List SheetRecord → Rose → Draft
+  pub drafted : List SheetRecord → Rose → Drawn
   drafted records (grown kind numbers rs) =
       let successors = drafted_each records rs in
       drafted_record successors.records (record_of (record { kind = kind; numbers = numbers; successors = successors.places }))
 
-  pub drafted_each : List SheetRecord → Roses → DraftEach
+  pub drafted_each : List SheetRecord → Roses → DrawnEach
   drafted_each records end = record { records = records; places = [] }
   drafted_each records (more r rs) =
       let first = drafted records r in
@@ -65,15 +62,26 @@ drawn_so_far len sheet = take (min len (usable sheet)) sheet
 abbrev pub sheet_with : List SheetRecord → List SheetRecord → List SheetRecord
 sheet_with sheet records = take (usable sheet) records ++ drop (min (usable sheet) (length records)) sheet
 
--- The place asked for and how many records are drawn, or the refusal of a draft that has more than are usable.
-abbrev pub draft_answer : List SheetRecord → Draft → Result Drawn Refusal
-draft_answer sheet draft =
-    cond (nat_le (length draft.records) (usable sheet)) (Ok (record { place = draft.place; len = length draft.records })) (Err SheetTooSmall)
+-- The records drawn so far into a draft.
+abbrev pub drawn_in : Draft → List SheetRecord
+drawn_in draft = drawn_so_far draft.len draft.sheet.now
 
--- Of an accepted drawing, how many records are drawn.
-abbrev pub counted : Result Drawn Refusal → Result ℕ Refusal
-counted (Ok drawn) = Ok drawn.len
-counted (Err refusal) = Err refusal
+-- The place asked for, or the refusal of a drawing of more records than are usable.
+abbrev pub place_answer : List SheetRecord → Drawn → Result ℕ Refusal
+place_answer sheet drawn = cond (nat_le (length drawn.records) (usable sheet)) (Ok drawn.place) (Err SheetTooSmall)
+
+-- What drawing answers, and the draft after it: its sheet is the same one, with the records drawn that are usable.
+pub record Draws (before after : Draft) (answer : Result ℕ Refusal) (drawn : Drawn) : Type 0 where
+  pub same_sheet : after.sheet.ghost_name ≡ before.sheet.ghost_name
+  pub answered : answer ≡ place_answer before.sheet.now drawn
+  pub leaves : after.sheet.now ≡ sheet_with before.sheet.now drawn.records
+  pub counts : after.len ≡ min (usable before.sheet.now) (length drawn.records)
+
+abbrev pub DrawsRecord : Draft → Draft → Result ℕ Refusal → SheetRecord → Type 0
+DrawsRecord before after answer added = Draws before after answer (drafted_record (drawn_in before) added)
+
+abbrev pub DrawsRose : Draft → Draft → Result ℕ Refusal → Rose → Type 0
+DrawsRose before after answer rose = Draws before after answer (drafted (drawn_in before) rose)
 
 -- The draft of a rose whose nodes fit is its figure, record by record, and the place asked for is the root's.
 abbrev pub DraftsAreFigures : {Q : Type 0} → Judging Q → Type 0

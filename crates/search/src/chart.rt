@@ -41,7 +41,7 @@ pub trait Chart: Sized {
     fn is_within_bounds(question: &Self::Question) -> bool
         ensures { result ≡ judging.is_within_bounds question.now };
 
-    /// The shape of a kind; none where the kind is not known.
+    /// The shape of a kind; none where the kind is not known. A kind stays a number here, since a sheet or a proof may hold any.
     fn shape_of(kind: u32) -> Option<Shape>
         ensures { result ≡ judging.shape_of kind };
 

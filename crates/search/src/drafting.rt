@@ -1,8 +1,6 @@
 //! Nodes drawn into the records of a sheet, each once.
-ghost use Rattle.std.specs.Prelude.{◌≡◌, nat_eq};
-ghost use Rattle.records.specs.Held.{same_number};
-ghost use Rattle.search.specs.Making.{agree};
-ghost use Rattle.search.specs.Drafting.{alike_records, counted, draft_answer, drafted_record, drawn_so_far, place_of_alike_record, sheet_with};
+ghost use Rattle.std.specs.Prelude.{◌≡◌};
+ghost use Rattle.search.specs.Drafting.{alike_records, place_of_alike_record, drawn_in, DrawsRecord};
 ghost use Rattle.search.specs.Sheet.{usable};
 
 use crate::sheet::SheetRecord;
@@ -11,44 +9,20 @@ use refusal::Refusal;
 /// Of a longer sheet only the first records are usable.
 const USABLE: usize = 8192;
 
-/// The place of a node, and how many records are drawn so far.
-#[derive(Clone, Copy)]
-pub struct Drawn {
-    pub place: u32,
-    pub len: usize,
-}
-
 /// Whether two records are alike in kind, numbers and successor places.
 pub fn is_alike(sought: &SheetRecord, other: &SheetRecord) -> bool
     ensures { result ≡ alike_records sought.now other.now }
 {
     sought.kind == other.kind
-        && same_numbers(&sought.numbers, &other.numbers)
-        && same_places(&sought.successors, &other.successors)
-}
-
-fn same_numbers(a: &[i32; 4], b: &[i32; 4]) -> bool
-    ensures { result ≡ agree same_number a.now b.now }
-{
-    *a == *b
-}
-
-fn same_places(a: &[u32; 3], b: &[u32; 3]) -> bool
-    ensures { result ≡ agree nat_eq a.now b.now }
-{
-    *a == *b
+        && sought.numbers == other.numbers
+        && sought.successors == other.successors
 }
 
 /// The first place of an alike record.
 pub fn find_alike(records: &[SheetRecord], sought: &SheetRecord) -> Option<usize>
     ensures { result ≡ place_of_alike_record sought.now records.now }
 {
-    for i in 0..records.len() {
-        if is_alike(sought, &records[i]) {
-            return Some(i);
-        }
-    }
-    None
+    records.iter().position(|other| is_alike(sought, other))
 }
 
 /// How many records of a sheet are usable.
@@ -58,36 +32,63 @@ pub fn usable_records(sheet: &[SheetRecord]) -> usize
     USABLE.min(sheet.len())
 }
 
-/// Draws a node behind the first `len` records of a sheet and gives its place, unless it is drawn already and has a place.
-/// Refused when it is new and no usable record is left, and then all is as it was.
-pub fn draw_node(sheet: &mut [SheetRecord], len: usize, node: SheetRecord) -> Result<Drawn, Refusal>
-    ensures answer { result ≡ draft_answer sheet.old (drafted_record (drawn_so_far len sheet.old) node) }
-    ensures after { sheet.new ≡ sheet_with sheet.old (drafted_record (drawn_so_far len sheet.old) node).records }
-{
-    let room = usable_records(sheet);
-    let run = len.min(room);
-    if let Some(place) = find_alike(&sheet[..run], &node) {
-        return Ok(Drawn {
-            place: place as u32,
-            len: run,
-        });
-    }
-    if run >= room {
-        return Err(Refusal::SheetTooSmall);
-    }
-    sheet[run] = node;
-    Ok(Drawn {
-        place: run as u32,
-        len: run + 1,
-    })
+/// A lent sheet, and how many of its records are drawn so far, from the first on.
+#[derive(Drop)]
+pub struct Draft<'a> {
+    sheet: &'a mut [SheetRecord],
+    len: usize,
 }
 
-/// Of an accepted drawing, how many records are drawn.
-pub fn count_of(drawn: Result<Drawn, Refusal>) -> Result<usize, Refusal>
-    ensures { result ≡ counted drawn }
-{
-    match drawn {
-        Ok(drawn) => Ok(drawn.len),
-        Err(refusal) => Err(refusal),
+impl<'a> Draft<'a> {
+    /// Nothing is drawn yet.
+    pub fn new(sheet: &'a mut [SheetRecord]) -> Draft<'a>
+        ensures same_sheet { result.sheet.ghost_name ≡ sheet.entry.ghost_name }
+        ensures untouched { result.sheet.now ≡ sheet.old }
+        ensures none { result.len ≡ 0 }
+    {
+        Draft { sheet, len: 0 }
+    }
+
+    /// How many records are drawn.
+    pub fn len(&self) -> usize
+        ensures { result ≡ self.now.len }
+    {
+        self.len
+    }
+
+    /// The records drawn so far.
+    fn drawn(&self) -> &[SheetRecord]
+        ensures { result.now ≡ drawn_in self.now }
+    {
+        &self.sheet[..self.len.min(self.room())]
+    }
+
+    /// How many records may be drawn in all.
+    fn room(&self) -> usize
+        ensures { result ≡ usable self.now.sheet.now }
+    {
+        usable_records(self.sheet)
+    }
+
+    /// Draws a node behind those drawn so far and gives its place, unless it is drawn already and has a place.
+    /// Refused when it is new and no usable record is left, and then all is as it was.
+    pub fn draw(&mut self, node: SheetRecord) -> Result<u32, Refusal>
+        ensures { DrawsRecord self.old self.new result node }
+    {
+        let drawn = self.drawn();
+        let run = drawn.len();
+        let known = find_alike(drawn, &node);
+        let room = self.room();
+        self.len = run;
+        // No more than 8,192 records are usable, so 32 bits hold a place.
+        if let Some(place) = known {
+            return Ok(place as u32);
+        }
+        if run >= room {
+            return Err(Refusal::SheetTooSmall);
+        }
+        self.sheet[run] = node;
+        self.len += 1;
+        Ok(run as u32)
     }
 }

@@ -3,7 +3,6 @@ use Rattle.std.proofs.Common.{◌≡◌, ℕ, zero, suc, ◌+◌, ◌-◌, ◌<�
 use Rattle.std.proofs.lemmas.List.{length_push, get_or_push, get_or_append_left}
 use Rattle.std.proofs.lemmas.Bool.{cases_lt, lt-ltb, le-ltb, cond-true, cond-false}
 use Rattle.sha256.specs.Compression.{word_of, expand, next_word, schedule}
-use Rattle.sha256.specs.declared.window.Window.{Window}
 
 pub length_schedule : (block : List ℕ) (t : ℕ) → length (schedule block t) ≡ t
 unfolding schedule
@@ -57,6 +56,3 @@ expanded_is block i p q r s made a b c d within is2 is7 is15 is16 ea eb ec ed is
     let s-is : i - 16 ≡ s = omega arith in
     let whole = later_word block i (omega arith) within in
     is ∙ simp (ea, eb, ec, ed) (sym (simp (p-is, q-is, r-is, s-is) at whole))
-
-pub same_window : {x0 x1 x2 x3 x4 x5 x6 x7 x8 x9 x10 x11 x12 x13 x14 x15 y0 y1 y2 y3 y4 y5 y6 y7 y8 y9 y10 y11 y12 y13 y14 y15 : ℕ} → x0 ≡ y0 → x1 ≡ y1 → x2 ≡ y2 → x3 ≡ y3 → x4 ≡ y4 → x5 ≡ y5 → x6 ≡ y6 → x7 ≡ y7 → x8 ≡ y8 → x9 ≡ y9 → x10 ≡ y10 → x11 ≡ y11 → x12 ≡ y12 → x13 ≡ y13 → x14 ≡ y14 → x15 ≡ y15 → ◌≡◌ {A = Window} (record { w0 = x0; w1 = x1; w2 = x2; w3 = x3; w4 = x4; w5 = x5; w6 = x6; w7 = x7; w8 = x8; w9 = x9; w10 = x10; w11 = x11; w12 = x12; w13 = x13; w14 = x14; w15 = x15 }) (record { w0 = y0; w1 = y1; w2 = y2; w3 = y3; w4 = y4; w5 = y5; w6 = y6; w7 = y7; w8 = y8; w9 = y9; w10 = y10; w11 = y11; w12 = y12; w13 = y13; w14 = y14; w15 = y15 })
-same_window e0 e1 e2 e3 e4 e5 e6 e7 e8 e9 e10 e11 e12 e13 e14 e15 = cc

@@ -1,25 +1,15 @@
 -- The message schedule as the code keeps it, sixteen words at a time.
-use Rattle.std.specs.Prelude.{ℕ, ◌+◌, List, slice_index}
-use Rattle.sha256.specs.declared.window.Window.{Window}
+use Rattle.std.specs.Prelude.{ℕ, ◌+◌, List, [], ◌∷◌, slice_index}
 
--- The words t to t + 15 of ws.
-abbrev pub window : List ℕ → ℕ → Window
+-- The words t to t + 15 of ws, and the words t to t + 7.
+abbrev pub window : List ℕ → ℕ → List ℕ
 window ws t =
-    record {
-      w0 = slice_index ws t;
-      w1 = slice_index ws (t + 1);
-      w2 = slice_index ws (t + 2);
-      w3 = slice_index ws (t + 3);
-      w4 = slice_index ws (t + 4);
-      w5 = slice_index ws (t + 5);
-      w6 = slice_index ws (t + 6);
-      w7 = slice_index ws (t + 7);
-      w8 = slice_index ws (t + 8);
-      w9 = slice_index ws (t + 9);
-      w10 = slice_index ws (t + 10);
-      w11 = slice_index ws (t + 11);
-      w12 = slice_index ws (t + 12);
-      w13 = slice_index ws (t + 13);
-      w14 = slice_index ws (t + 14);
-      w15 = slice_index ws (t + 15);
-    }
+    slice_index ws t ∷ slice_index ws (t + 1) ∷ slice_index ws (t + 2) ∷ slice_index ws (t + 3) ∷
+    slice_index ws (t + 4) ∷ slice_index ws (t + 5) ∷ slice_index ws (t + 6) ∷ slice_index ws (t + 7) ∷
+    slice_index ws (t + 8) ∷ slice_index ws (t + 9) ∷ slice_index ws (t + 10) ∷ slice_index ws (t + 11) ∷
+    slice_index ws (t + 12) ∷ slice_index ws (t + 13) ∷ slice_index ws (t + 14) ∷ slice_index ws (t + 15) ∷ []
+
+abbrev pub half_window : List ℕ → ℕ → List ℕ
+half_window ws t =
+    slice_index ws t ∷ slice_index ws (t + 1) ∷ slice_index ws (t + 2) ∷ slice_index ws (t + 3) ∷
+    slice_index ws (t + 4) ∷ slice_index ws (t + 5) ∷ slice_index ws (t + 6) ∷ slice_index ws (t + 7) ∷ []

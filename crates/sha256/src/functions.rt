@@ -1,4 +1,4 @@
-// The six functions on words (FIPS 180-4, section 4.1.2).
+// The six functions on words (FIPS 180-4, section 4.1.2), each under its own name as there: no caller has to give rotations.
 ghost use Rattle.std.specs.Prelude.{◌≡◌};
 ghost use Rattle.sha256.specs.Functions.{Ch, Maj, Σ0, Σ1, σ0, σ1};
 

@@ -7,7 +7,7 @@ ghost use Rattle.sha256.specs.DigestBytes.{joined_bytes};
 
 use crate::message::digest_of;
 use crate::state::Sha256;
-use digest::Hash;
+use digest::{Hash, check_length};
 use refusal::Refusal;
 
 impl Hash for Sha256 {
@@ -17,10 +17,9 @@ impl Hash for Sha256 {
 
     ghost bytes = { unfold sha256 in λ message. joined_bytes (after H⁰ (padded message) (length (padded message) / 64)) };
 
+    // The same two lines in both hashes; what differs is the digest of a message that fits.
     fn hash(message: &[u8]) -> Result<[u8; 32], Refusal> {
-        if message.len() > 65535 {
-            return Err(Refusal::MessageTooLong);
-        }
+        check_length(message.len())?;
         Ok(digest_of(message))
     }
 }

@@ -1,5 +1,6 @@
 // The padded end of a message (FIPS 180-4, section 5.1.1).
 ghost use Rattle.std.specs.Prelude.{◌≡◌, ◌+◌, ◌-◌, ◌*◌, ◌/◌, ◌%◌, ◌<◌, ◌≤◌, ◌∷◌, ◌++◌, length, take, replicate};
+ghost use Rattle.digest.specs.Hashing.{longest};
 ghost use Rattle.sha256.specs.Standard.{after, padding, eight_bytes};
 
 use crate::compression::absorb;
@@ -17,7 +18,7 @@ fn ended(rest: &[u8]) -> [u8; 64]
 }
 
 // Writes the message's length, in bits, into the last eight bytes.
-fn put_length(block: &mut [u8; 64], bits: u64)
+fn put_length(block: &mut [u8; 64], bits: usize)
     ensures { block.new ≡ take 56 block.old ++ eight_bytes bits }
 {
     block[56..64].copy_from_slice(&bits.to_be_bytes());
@@ -25,7 +26,7 @@ fn put_length(block: &mut [u8; 64], bits: u64)
 
 // Takes the rest of a message of `size` bytes, and its padding, into the hash value.
 pub(crate) fn absorb_last(h: &mut Words, rest: &[u8], size: usize)
-    requires { (length rest.now ≡ size % 64) × (size ≤ 65535) }
+    requires { (length rest.now ≡ size % 64) × (size ≤ longest) }
     ensures { h.new ≡ after h.old (rest.now ++ padding size) ((length rest.now + 72) / 64) }
 {
     let mut block = ended(rest);
@@ -33,6 +34,6 @@ pub(crate) fn absorb_last(h: &mut Words, rest: &[u8], size: usize)
         absorb(h, &block);
         block = [0; 64];
     }
-    put_length(&mut block, 8 * size as u64);
+    put_length(&mut block, 8 * size);
     absorb(h, &block);
 }

@@ -14,7 +14,6 @@ mod round;
 mod schedule;
 mod state;
 mod vectors;
-mod window;
 mod words;
 
 pub use state::Sha256;

@@ -4,43 +4,38 @@ ghost use Rattle.sha256.specs.Compression.{word_of, expand, schedule};
 ghost use Rattle.sha256.specs.Windows.{window};
 
 use crate::functions::{small_sigma_0, small_sigma_1};
-use crate::window::Window;
 
 // The word `t` of a block.
 fn word(block: &[u8; 64], t: usize) -> u32
     requires { t < 16 }
     ensures { result ≡ word_of block.now t }
 {
-    u32::from_be_bytes([
-        block[4 * t],
-        block[4 * t + 1],
-        block[4 * t + 2],
-        block[4 * t + 3],
-    ])
+    let (words, _) = block.as_chunks::<4>();
+    u32::from_be_bytes(words[t])
 }
 
 // The words of the block itself.
-pub(crate) fn first_sixteen(block: &[u8; 64]) -> Window
+pub(crate) fn first_sixteen(block: &[u8; 64]) -> [u32; 16]
     ensures { result ≡ window (schedule block.now 64) 0 }
 {
-    Window {
-        w0: word(block, 0),
-        w1: word(block, 1),
-        w2: word(block, 2),
-        w3: word(block, 3),
-        w4: word(block, 4),
-        w5: word(block, 5),
-        w6: word(block, 6),
-        w7: word(block, 7),
-        w8: word(block, 8),
-        w9: word(block, 9),
-        w10: word(block, 10),
-        w11: word(block, 11),
-        w12: word(block, 12),
-        w13: word(block, 13),
-        w14: word(block, 14),
-        w15: word(block, 15),
-    }
+    [
+        word(block, 0),
+        word(block, 1),
+        word(block, 2),
+        word(block, 3),
+        word(block, 4),
+        word(block, 5),
+        word(block, 6),
+        word(block, 7),
+        word(block, 8),
+        word(block, 9),
+        word(block, 10),
+        word(block, 11),
+        word(block, 12),
+        word(block, 13),
+        word(block, 14),
+        word(block, 15),
+    ]
 }
 
 // A later word, from those that stand 2, 7, 15 and 16 places before it.
@@ -53,42 +48,45 @@ fn expanded(back_2: u32, back_7: u32, back_15: u32, back_16: u32) -> u32
         .wrapping_add(back_16)
 }
 
-// The sixteen words that follow.
-pub(crate) fn next_sixteen(w: Window) -> Window
-    ensures { (block : List ℕ) (t : ℕ) → t + 32 ≤ 64 → w ≡ window (schedule block 64) t → result ≡ window (schedule block 64) (t + 16) }
+// Goes on to the sixteen words that follow. They are written out: a loop over the places is slower.
+pub(crate) fn next_sixteen(w: &mut [u32; 16])
+    ensures { (block : List ℕ) (t : ℕ) → t + 32 ≤ 64 → w.old ≡ window (schedule block 64) t → w.new ≡ window (schedule block 64) (t + 16) }
 {
-    let x0 = expanded(w.w14, w.w9, w.w1, w.w0);
-    let x1 = expanded(w.w15, w.w10, w.w2, w.w1);
-    let x2 = expanded(x0, w.w11, w.w3, w.w2);
-    let x3 = expanded(x1, w.w12, w.w4, w.w3);
-    let x4 = expanded(x2, w.w13, w.w5, w.w4);
-    let x5 = expanded(x3, w.w14, w.w6, w.w5);
-    let x6 = expanded(x4, w.w15, w.w7, w.w6);
-    let x7 = expanded(x5, x0, w.w8, w.w7);
-    let x8 = expanded(x6, x1, w.w9, w.w8);
-    let x9 = expanded(x7, x2, w.w10, w.w9);
-    let x10 = expanded(x8, x3, w.w11, w.w10);
-    let x11 = expanded(x9, x4, w.w12, w.w11);
-    let x12 = expanded(x10, x5, w.w13, w.w12);
-    let x13 = expanded(x11, x6, w.w14, w.w13);
-    let x14 = expanded(x12, x7, w.w15, w.w14);
-    let x15 = expanded(x13, x8, x0, w.w15);
-    Window {
-        w0: x0,
-        w1: x1,
-        w2: x2,
-        w3: x3,
-        w4: x4,
-        w5: x5,
-        w6: x6,
-        w7: x7,
-        w8: x8,
-        w9: x9,
-        w10: x10,
-        w11: x11,
-        w12: x12,
-        w13: x13,
-        w14: x14,
-        w15: x15,
-    }
+    let [
+        w0,
+        w1,
+        w2,
+        w3,
+        w4,
+        w5,
+        w6,
+        w7,
+        w8,
+        w9,
+        w10,
+        w11,
+        w12,
+        w13,
+        w14,
+        w15,
+    ] = *w;
+    let x0 = expanded(w14, w9, w1, w0);
+    let x1 = expanded(w15, w10, w2, w1);
+    let x2 = expanded(x0, w11, w3, w2);
+    let x3 = expanded(x1, w12, w4, w3);
+    let x4 = expanded(x2, w13, w5, w4);
+    let x5 = expanded(x3, w14, w6, w5);
+    let x6 = expanded(x4, w15, w7, w6);
+    let x7 = expanded(x5, x0, w8, w7);
+    let x8 = expanded(x6, x1, w9, w8);
+    let x9 = expanded(x7, x2, w10, w9);
+    let x10 = expanded(x8, x3, w11, w10);
+    let x11 = expanded(x9, x4, w12, w11);
+    let x12 = expanded(x10, x5, w13, w12);
+    let x13 = expanded(x11, x6, w14, w13);
+    let x14 = expanded(x12, x7, w15, w14);
+    let x15 = expanded(x13, x8, x0, w15);
+    *w = [
+        x0, x1, x2, x3, x4, x5, x6, x7, x8, x9, x10, x11, x12, x13, x14, x15,
+    ];
 }

@@ -1,4 +1,5 @@
-// The eight words of a hash value, and of the working variables a to h.
+// The eight words of a hash value, and of the working variables a to h. They are named, as in the standard, so that a round
+// reads as its equations do.
 #[derive(Clone, Copy)]
 pub(crate) struct Words {
     pub(crate) a: u32,

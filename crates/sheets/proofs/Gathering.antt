@@ -1,13 +1,16 @@
 -- The digests at successor places, gathered one after another.
-use Rattle.std.proofs.Common.{◌≡◌, ℕ, ◌+◌, ◌<◌, ◌≤◌, min, List, [], ◌∷◌, ◌++◌, length, get_or, take, set, Some, None, Option, sym, ap, ◌∙◌, subst, arith}
+use Rattle.std.proofs.Common.{◌≡◌, ℕ, ◌+◌, ◌<◌, List, [], ◌∷◌, ◌++◌, length, get_or, take, set, Some, None, Option, sym, refl, ap, ◌∙◌, subst}
 use Rattle.std.specs.List.{slice_get, AllByRecursion}
-use Rattle.std.proofs.lemmas.List.{append-nil, length-map, length-take, take_more, take_more_set, get_or-map, get_or-take}
-use Rattle.std.proofs.lemmas.Option.{slice_get-get_or, slice_get_past}
+use Rattle.std.proofs.lemmas.List.{append-nil, take_more, take_more_set}
 use Rattle.std.proofs.ByRecursion.{All-push}
+use Rattle.std.specs.Borrow.{Bor}
+use Rattle.std.specs.Option.{option_map}
+use Rattle.std.specs.Slice.{IsItemAt}
+use Rattle.std.proofs.lemmas.Option.{slice_get-map, slice_get_past, slice_get_read}
 use Rattle.node.specs.Sizes.{IsDigest}
 use Rattle.search.specs.declared.sheet.SheetRecord.{SheetRecord}
 use Rattle.search.specs.Picks.{ahead, picks}
-use Rattle.calls.specs.Sheets.{digests_on}
+use Rattle.calls.specs.Sheets.{stored_digests}
 use Rattle.calls.proofs.Picking.{picks_append}
 
 pub picks_more : {X : Type 0} (xs : List X) (places : List ℕ) (i : ℕ) (found : Option X) → i < length places → slice_get xs (get_or places i 0) ≡ found
@@ -15,18 +18,11 @@ pub picks_more : {X : Type 0} (xs : List X) (places : List ℕ) (i : ℕ) (found
 picks_more xs places i found inside is =
     ap (picks xs) (take_more places i 0 inside) ∙ picks_append xs (take i places) (get_or places i 0 ∷ []) ∙ ap (λ o. picks xs (take i places) ++ ahead o []) is
 
-length_digests : (sheet : List SheetRecord) (count : ℕ) → length (digests_on sheet count) ≡ min count (length sheet)
-length_digests sheet count = length-map (take count sheet) (λ r. r.digest) ∙ length-take count sheet
-
-pub digest_at : (sheet : List SheetRecord) (count at : ℕ) (d : SheetRecord) → at < count → at < length sheet → slice_get (digests_on sheet count) at ≡ Some (get_or sheet at d).digest
-digest_at sheet count at d counted inside =
-    let within : at < length (take count sheet) = omega (arith, length-take count sheet) in
-    let bound : at < length (digests_on sheet count) = omega (arith, length_digests sheet count) in
-    slice_get-get_or (digests_on sheet count) at d.digest bound
-    ∙ ap Some (get_or-map (λ r. r.digest) (take count sheet) at d d.digest within ∙ ap (λ (r : SheetRecord). r.digest) (get_or-take count sheet at d counted))
-
-pub no_digest_at : (sheet : List SheetRecord) (count at : ℕ) → min count (length sheet) ≤ at → slice_get (digests_on sheet count) at ≡ None
-no_digest_at sheet count at past = slice_get_past (digests_on sheet count) at (omega (arith, length_digests sheet count))
+-- what is looked up among the records
+pub digest_at : (counted : List SheetRecord) (place : ℕ) (r : Option (Bor SheetRecord)) → IsItemAt counted place r → slice_get (stored_digests counted) place ≡ option_map (λ b. b.now.digest) r
+digest_at counted place None h = slice_get-map (λ (r : SheetRecord). r.digest) counted place ∙ ap (option_map (λ (r : SheetRecord). r.digest)) (slice_get_past counted place h.3)
+digest_at counted place (Some b) h =
+    slice_get-map (λ (r : SheetRecord). r.digest) counted place ∙ ap (option_map (λ (r : SheetRecord). r.digest)) (slice_get_read counted (length counted) place b.now refl h.3.0 h.1)
 
 -- one more place looked at: its digest is stored behind the others, or there is none
 pub one_stored : {X : Type 0} (xs : List X) (places : List ℕ) (i : ℕ) (stored : List X) (found : ℕ) (digest : X)

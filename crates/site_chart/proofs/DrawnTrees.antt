@@ -1,118 +1,74 @@
--- The trees of sites drawn call after call: the halves, the sites across, the node.
-use Rattle.std.proofs.Common.{◌≡◌, ℕ, ◌-◌, ◌≤◌, List, [], ◌∷◌, length, get_or, take, drop, Ok, Err, Result, sym, ap, arith}
-use Rattle.std.proofs.lemmas.List.{length-map}
+-- A tree of sites drawn call after call: the halves, then the span.
+use Rattle.std.proofs.Common.{◌≡◌, ℕ, ◌≤◌, List, ◌∷◌, ◌++◌, map, length, take, drop, ℤ, Ok, Err, Result, sym, ap, ◌∙◌, subst, arith}
+use Rattle.std.proofs.lemmas.List.{take-map, drop-map, length-map}
 use Rattle.refusal.specs.declared.Refusal.{Refusal}
-use Rattle.sites.specs.Site.{raw_of}
 use Rattle.records.specs.declared.raw.SiteRecord.{SiteRecord}
 use Rattle.search.specs.declared.sheet.SheetRecord.{SheetRecord}
-use Rattle.search.specs.declared.drafting.Drawn.{Drawn}
-use Rattle.search.specs.Rose.{Rose, two, three}
+use Rattle.search.specs.declared.drafting.Draft.{Draft}
+use Rattle.search.specs.Rose.{Rose, Roses, grown, more}
 use Rattle.search.specs.Sheet.{record_of}
-use Rattle.search.specs.Drafting.{drafted_record, drawn_so_far}
-use Rattle.search.proofs.Drafts.{Outcome}
-use Rattle.site_figure.specs.Halving.{half, tree_of, left_half, right_half}
-use Rattle.site_figure.specs.Figure.{x_rose, y_rose, y_tree, span_of}
-use Rattle.site_figure.proofs.Holding.{trees_halve}
-use Rattle.site_chart.specs.declared.orders.SiteByX.{SiteByX}
-use Rattle.site_chart.specs.declared.orders.SiteByY.{SiteByY}
-use Rattle.site_chart.specs.Orders.{records_by_x, records_by_y}
-use Rattle.site_chart.proofs.Halved.{none_by_x, none_by_y, one_by_x, one_by_y, left_records, right_records}
-use Rattle.site_chart.proofs.Successors.{Told, told_alike, told_record, two_first, two_second, two_last, three_first, three_second, three_third, three_last}
+use Rattle.search.specs.Drafting.{Drawn, drafted_each, drawn_in, Draws, DrawsRose}
+use Rattle.search.proofs.Sequences.{Grows, record_grows, grows_on, roses_grow}
+use Rattle.site_figure.specs.Halving.{Tree, both, half, tree_of, leaves_of, left_half, right_half}
+use Rattle.site_figure.proofs.Halves.{leaves_tree_of, tree_of_halves}
+use Rattle.site_chart.specs.Spanned.{spanned}
+use Rattle.site_chart.proofs.Halves.{first_refused, second_refused, rest_drawn}
 
-abbrev pub by_xtree : List SiteByX → Rose
-by_xtree xs = x_rose (tree_of (records_by_x xs))
+-- what is drawn besides and the span itself only add records
+span_grows : (kind : ℕ) (numbers : List ℤ) (besides : Roses) (left right : ℕ) → Grows (spanned kind numbers left right besides)
+span_grows kind numbers besides left right records =
+    let a = roses_grow besides records in
+    let b = record_grows (record_of (record { kind = kind; numbers = numbers; successors = left ∷ right ∷ (drafted_each records besides).places })) (drafted_each records besides).records in
+    (a.0 ++ b.0, grows_on records (drafted_each records besides).records _ a.0 b.0 a.1 b.1)
 
-abbrev pub by_ytree : List SiteByY → Rose
-by_ytree xs = y_rose (tree_of (records_by_y xs))
+-- sites parted in the middle: the tree of all has the trees of the parts, and all at its leaves
+module _ {A : Type 0} (raw : A → SiteRecord) (xs front back : List A) (many : 2 ≤ length xs) (middle : ℕ) (is : middle ≡ half (length xs)) (front_is : front ≡ take middle xs) (back_is : back ≡ drop middle xs) where
+  abbrev records : List SiteRecord
+  records = map raw xs
 
-abbrev pub empty_node : SheetRecord
-empty_node = record_of (record { kind = 0; numbers = []; successors = [] })
+  abbrev lesser : Tree SiteRecord
+  lesser = tree_of (map raw front)
 
-abbrev pub site_node : SiteRecord → SheetRecord
-site_node s = record_of (record { kind = 6; numbers = s.number ∷ s.x ∷ s.y ∷ []; successors = [] })
+  abbrev greater : Tree SiteRecord
+  greater = tree_of (map raw back)
 
--- no site, and one
-module _ (sheet : List SheetRecord) (len : ℕ) (answer : Result Drawn Refusal) (left : List SheetRecord) (n : SheetRecord) (told : Outcome sheet (drafted_record (drawn_so_far len sheet) n) answer left) where
-  pub x_none : (xs : List SiteByX) → length xs ≡ 0 → n ≡ empty_node → Told sheet len (by_xtree xs) answer left
-  x_none xs none is = told_alike sheet len _ _ answer left (none_by_x (λ s. raw_of s.site) xs none) (told_record sheet len n empty_node answer left is told)
+  middle_of_records : middle ≡ half (length records)
+  middle_of_records = is ∙ ap half (sym (length-map xs raw))
 
-  pub y_none : (xs : List SiteByY) → length xs ≡ 0 → n ≡ empty_node → Told sheet len (by_ytree xs) answer left
-  y_none xs none is = told_alike sheet len _ _ answer left (none_by_y (λ s. raw_of s.site) xs none) (told_record sheet len n empty_node answer left is told)
+  parted : tree_of records ≡ both lesser greater
+  parted =
+      let first : left_half records ≡ map raw front = ap (λ (n : ℕ). take n records) (sym middle_of_records) ∙ take-map raw middle xs ∙ ap (map raw) (sym front_is) in
+      let second : right_half records ≡ map raw back = ap (λ (n : ℕ). drop n records) (sym middle_of_records) ∙ drop-map raw middle xs ∙ ap (map raw) (sym back_is) in
+      tree_of_halves records (omega (arith, length-map xs raw)) ∙ (λ i. both (tree_of (first i)) (tree_of (second i)))
 
-  pub x_one : (xs : List SiteByX) (a : SiteByX) → length xs ≡ 1 → n ≡ site_node (raw_of (get_or xs 0 a).site) → Told sheet len (by_xtree xs) answer left
-  x_one xs a one is =
-      told_alike sheet len _ _ answer left (one_by_x (λ s. raw_of s.site) xs a one) (told_record sheet len n (site_node (raw_of (get_or xs 0 a).site)) answer left is told)
+  all_leaves : leaves_of lesser ++ leaves_of greater ≡ records
+  all_leaves = ap leaves_of (sym parted) ∙ leaves_tree_of records
 
-  pub y_one : (xs : List SiteByY) (a : SiteByY) → length xs ≡ 1 → n ≡ site_node (raw_of (get_or xs 0 a).site) → Told sheet len (by_ytree xs) answer left
-  y_one xs a one is =
-      told_alike sheet len _ _ answer left (one_by_y (λ s. raw_of s.site) xs a one) (told_record sheet len n (site_node (raw_of (get_or xs 0 a).site)) answer left is told)
+  module _ (rose : Tree SiteRecord → Rose) (kind : ℕ) (numbers : List SiteRecord → List ℤ) (besides : List SiteRecord → Roses)
+      (of_both : (l r : Tree SiteRecord) → rose (both l r) ≡ grown kind (numbers (leaves_of l ++ leaves_of r)) (more (rose l) (more (rose r) (besides (leaves_of l ++ leaves_of r)))))
+      (before : Draft) where
+    abbrev halved : Rose
+    halved = grown kind (numbers records) (more (rose lesser) (more (rose greater) (besides records)))
 
--- two sites or more, by y
-module _ (xs : List SiteByY) (many : 2 ≤ length xs) (middle : ℕ) (is : middle ≡ half (length xs)) (sheet : List SheetRecord) (len : ℕ) where
-  abbrev ys : List SiteRecord
-  ys = records_by_y xs
+    whole_is : halved ≡ rose (tree_of records)
+    whole_is = sym (ap rose parted ∙ of_both lesser greater ∙ ap (λ (l : List SiteRecord). grown kind (numbers l) (more (rose lesser) (more (rose greater) (besides l)))) all_leaves)
 
-  y_halves : two 5 (span_of (λ s. s.y) ys) (y_rose (tree_of (left_half ys))) (y_rose (tree_of (right_half ys))) ≡ by_ytree xs
-  y_halves = sym (trees_halve ys (omega (arith, length-map xs (λ s. raw_of s.site)))).1
+    whole_drawn : (after : Draft) (answer : Result ℕ Refusal) → DrawsRose before after answer halved → DrawsRose before after answer (rose (tree_of records))
+    whole_drawn after answer told = subst (DrawsRose before after answer) whole_is told
 
-  y_left : (s : List SheetRecord) (l : ℕ) (answer : Result Drawn Refusal) (left : List SheetRecord) → Told s l (by_ytree (take middle xs)) answer left → Told s l (y_rose (tree_of (left_half ys))) answer left
-  y_left s l answer left told = told_alike s l _ _ answer left (ap (λ t. y_rose (tree_of t)) (left_records (λ s. raw_of s.site) xs middle is)) told
+    abbrev span : ℕ → ℕ → List SheetRecord → Drawn
+    span left right = spanned kind (numbers records) left right (besides records)
 
-  y_right : (s : List SheetRecord) (l : ℕ) (answer : Result Drawn Refusal) (left : List SheetRecord) → Told s l (by_ytree (take (length xs - middle) (drop middle xs))) answer left → Told s l (y_rose (tree_of (right_half ys))) answer left
-  y_right s l answer left told = told_alike s l _ _ answer left (ap (λ t. y_rose (tree_of t)) (right_records (λ s. raw_of s.site) xs middle is)) told
+    grows : (p q : ℕ) → Grows (span p q)
+    grows = span_grows kind (numbers records) (besides records)
 
-  pub y_left_refused : (e : Refusal) (left : List SheetRecord) → Told sheet len (by_ytree (take middle xs)) (Err e) left → Told sheet len (by_ytree xs) (Err e) left
-  y_left_refused e left told =
-      told_alike sheet len _ _ (Err e) left y_halves (two_first sheet len 5 (span_of (λ s. s.y) ys) (y_rose (tree_of (left_half ys))) (y_rose (tree_of (right_half ys))) e left (y_left sheet len (Err e) left told))
+    pub lesser_refused : (after : Draft) (e : Refusal) → DrawsRose before after (Err e) (rose lesser) → DrawsRose before after (Err e) (rose (tree_of records))
+    lesser_refused after e told = whole_drawn after (Err e) (first_refused before (rose lesser) (rose greater) span grows after e told)
 
-  module _ (x : Drawn) (after : List SheetRecord) (left-told : Told sheet len (by_ytree (take middle xs)) (Ok x) after) where
-    pub y_right_refused : (e : Refusal) (left : List SheetRecord) → Told after x.len (by_ytree (take (length xs - middle) (drop middle xs))) (Err e) left → Told sheet len (by_ytree xs) (Err e) left
-    y_right_refused e left told =
-        told_alike sheet len _ _ (Err e) left y_halves
-        (two_second sheet len 5 (span_of (λ s. s.y) ys) (y_rose (tree_of (left_half ys))) (y_rose (tree_of (right_half ys))) x after (y_left sheet len (Ok x) after left-told) e left (y_right after x.len (Err e) left told))
+    module _ (one : Draft) (x : ℕ) (first-told : DrawsRose before one (Ok x) (rose lesser)) where
+      pub greater_refused : (after : Draft) (e : Refusal) → DrawsRose one after (Err e) (rose greater) → DrawsRose before after (Err e) (rose (tree_of records))
+      greater_refused after e told = whole_drawn after (Err e) (second_refused before (rose lesser) (rose greater) span grows one x first-told after e told)
 
-    pub y_drawn : (y : Drawn) (later : List SheetRecord) → Told after x.len (by_ytree (take (length xs - middle) (drop middle xs))) (Ok y) later
-        → (n : SheetRecord) → n ≡ record_of (record { kind = 5; numbers = span_of (λ s. s.y) ys; successors = x.place ∷ y.place ∷ [] })
-        → (answer : Result Drawn Refusal) (left : List SheetRecord)
-        → Outcome later (drafted_record (drawn_so_far y.len later) n) answer left → Told sheet len (by_ytree xs) answer left
-    y_drawn y later right-told n node-is answer left told =
-        told_alike sheet len _ _ answer left y_halves
-        (two_last sheet len 5 (span_of (λ s. s.y) ys) (y_rose (tree_of (left_half ys))) (y_rose (tree_of (right_half ys))) x after (y_left sheet len (Ok x) after left-told) y later (y_right after x.len (Ok y) later right-told) n node-is answer left told)
-
--- two sites or more, by x
-module _ (xs : List SiteByX) (many : 2 ≤ length xs) (middle : ℕ) (is : middle ≡ half (length xs)) (sheet : List SheetRecord) (len : ℕ) where
-  abbrev rs : List SiteRecord
-  rs = records_by_x xs
-
-  x_halves : three 4 (span_of (λ s. s.x) rs) (x_rose (tree_of (left_half rs))) (x_rose (tree_of (right_half rs))) (y_tree rs) ≡ by_xtree xs
-  x_halves = sym (trees_halve rs (omega (arith, length-map xs (λ s. raw_of s.site)))).0
-
-  x_left : (s : List SheetRecord) (l : ℕ) (answer : Result Drawn Refusal) (left : List SheetRecord) → Told s l (by_xtree (take middle xs)) answer left → Told s l (x_rose (tree_of (left_half rs))) answer left
-  x_left s l answer left told = told_alike s l _ _ answer left (ap (λ t. x_rose (tree_of t)) (left_records (λ s. raw_of s.site) xs middle is)) told
-
-  x_right : (s : List SheetRecord) (l : ℕ) (answer : Result Drawn Refusal) (left : List SheetRecord) → Told s l (by_xtree (take (length xs - middle) (drop middle xs))) answer left → Told s l (x_rose (tree_of (right_half rs))) answer left
-  x_right s l answer left told = told_alike s l _ _ answer left (ap (λ t. x_rose (tree_of t)) (right_records (λ s. raw_of s.site) xs middle is)) told
-
-  pub x_left_refused : (e : Refusal) (left : List SheetRecord) → Told sheet len (by_xtree (take middle xs)) (Err e) left → Told sheet len (by_xtree xs) (Err e) left
-  x_left_refused e left told =
-      told_alike sheet len _ _ (Err e) left x_halves (three_first sheet len 4 (span_of (λ s. s.x) rs) (x_rose (tree_of (left_half rs))) (x_rose (tree_of (right_half rs))) (y_tree rs) e left (x_left sheet len (Err e) left told))
-
-  module _ (x : Drawn) (after : List SheetRecord) (left-told : Told sheet len (by_xtree (take middle xs)) (Ok x) after) where
-    pub x_right_refused : (e : Refusal) (left : List SheetRecord) → Told after x.len (by_xtree (take (length xs - middle) (drop middle xs))) (Err e) left → Told sheet len (by_xtree xs) (Err e) left
-    x_right_refused e left told =
-        told_alike sheet len _ _ (Err e) left x_halves
-        (three_second sheet len 4 (span_of (λ s. s.x) rs) (x_rose (tree_of (left_half rs))) (x_rose (tree_of (right_half rs))) (y_tree rs) x after (x_left sheet len (Ok x) after left-told) e left (x_right after x.len (Err e) left told))
-
-    module _ (y : Drawn) (later : List SheetRecord) (right-told : Told after x.len (by_xtree (take (length xs - middle) (drop middle xs))) (Ok y) later) where
-      pub x_across_refused : (e : Refusal) (left : List SheetRecord) → Told later y.len (y_tree rs) (Err e) left → Told sheet len (by_xtree xs) (Err e) left
-      x_across_refused e left told =
-          told_alike sheet len _ _ (Err e) left x_halves
-          (three_third sheet len 4 (span_of (λ s. s.x) rs) (x_rose (tree_of (left_half rs))) (x_rose (tree_of (right_half rs))) (y_tree rs) x after (x_left sheet len (Ok x) after left-told) y later (x_right after x.len (Ok y) later right-told) e left told)
-
-      pub x_drawn : (z : Drawn) (last : List SheetRecord) → Told later y.len (y_tree rs) (Ok z) last
-          → (n : SheetRecord) → n ≡ record_of (record { kind = 4; numbers = span_of (λ s. s.x) rs; successors = x.place ∷ y.place ∷ z.place ∷ [] })
-          → (answer : Result Drawn Refusal) (left : List SheetRecord)
-          → Outcome last (drafted_record (drawn_so_far z.len last) n) answer left → Told sheet len (by_xtree xs) answer left
-      x_drawn z last across-told n node-is answer left told =
-          told_alike sheet len _ _ answer left x_halves
-          (three_last sheet len 4 (span_of (λ s. s.x) rs) (x_rose (tree_of (left_half rs))) (x_rose (tree_of (right_half rs))) (y_tree rs) x after (x_left sheet len (Ok x) after left-told) y later (x_right after x.len (Ok y) later right-told) z last across-told n node-is answer left told)
+      pub span_drawn : (other : Draft) (y : ℕ) → DrawsRose one other (Ok y) (rose greater)
+          → (after : Draft) (answer : Result ℕ Refusal) → Draws other after answer (span x y (drawn_in other)) → DrawsRose before after answer (rose (tree_of records))
+      span_drawn other y second-told after answer told = whole_drawn after answer (rest_drawn before (rose lesser) (rose greater) span grows one x first-told other y second-told after answer told)

@@ -10,7 +10,7 @@ use Rattle.site_figure.specs.Judge.{site_judging}
 use Rattle.site_figure.specs.Halving.{Tree, none, one, both, tree_of, leaves_of}
 use Rattle.site_figure.specs.Figure.{by_x, by_y, empty_rose, site_rose, y_rose, x_rose, x_tree}
 use Rattle.records.specs.declared.raw.Rectangle.{Rectangle}
-use Rattle.site_chart.proofs.Shapes.{shapes_in}
+use Rattle.search.proofs.Shapes.{shapes_in}
 
 abbrev pub site_shapes : Judging Rectangle
 site_shapes = shapes_in site_judging

@@ -1,7 +1,5 @@
 pub mod SortedRecords
 pub mod Extremes
-pub mod Successors
-pub mod Halved
+pub mod Halves
 pub mod DrawnTrees
-pub mod Shapes
 pub mod HeldSites

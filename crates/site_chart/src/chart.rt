@@ -4,13 +4,13 @@ ghost use Rattle.site_figure.specs.Figure.{site_drawing};
 ghost use Rattle.site_figure.specs.Judge.{site_judging};
 ghost use Rattle.site_figure.proofs.Lawful.{sites_are_lawful_lem};
 
-use crate::drawing::draw_sites;
+use crate::drawing::draw_register;
 use crate::judging;
 use node::Shape;
 use records::raw::{Rectangle, SiteRecord};
 use refusal::Refusal;
 use search::chart::Chart;
-use search::drafting::count_of;
+use search::drafting::Draft;
 use search::sheet::SheetRecord;
 use search::verdict::Verdict;
 use sites::question;
@@ -66,6 +66,8 @@ impl Chart for SiteChart {
     }
 
     fn draw(&self, sheet: &mut [SheetRecord]) -> Result<usize, Refusal> {
-        count_of(draw_sites(self.register.sites(), sheet))
+        let mut draft = Draft::new(sheet);
+        draw_register(&mut draft, &self.register)?;
+        Ok(draft.len())
     }
 }

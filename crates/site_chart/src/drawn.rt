@@ -17,8 +17,7 @@ impl DrawnChart for SiteChart {
 fn read_numbers(sites: &[Site])
     ensures { AllByRecursion (λ r. is_site r ≡ true) (map raw_of sites.now) }
 {
-    for i in 0..sites.len() {
-        let site = sites[i];
+    for site in sites {
         let _number = site.record_number();
     }
 }

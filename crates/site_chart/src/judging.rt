@@ -1,36 +1,37 @@
 //! How a site chart judges: the kinds that it knows, which numbers are fit, and where a node leads.
-ghost use Rattle.std.specs.Prelude.{◌≡◌, ◌≤◌, true, [], length, Some, unsigned_abs};
-ghost use Rattle.node.specs.Kinds.{kind_numbered};
-ghost use Rattle.node.specs.declared.kind.Kind.TheVariants.{Site, YSpan};
-ghost use Rattle.search.specs.Judging.{judged, nothing as none};
+ghost use Rattle.std.specs.Prelude.{◌≡◌, Some};
+ghost use Rattle.search.specs.Judging.{judged};
 ghost use Rattle.search.specs.Verdict.{judgement_of};
-ghost use Rattle.sites.specs.Question.{is_inside};
-ghost use Rattle.sites.specs.Site.{is_site};
-ghost use Rattle.site_figure.specs.Judge.{across as go_across, is_fit_as, is_known, judge_as, judge_site, judge_xspan, judge_yspan, left_then_right, number_at, site_judging, site_of};
+ghost use Rattle.sites.specs.Site.{raw_of};
+ghost use Rattle.site_figure.specs.Judge.{is_known, judge_as, judge_site, judge_xspan, judge_yspan, left_then_right, site_judging};
+ghost use Rattle.site_chart.specs.Told.{kind_of, numbers_of};
 
+use crate::fit::{FitNode, fit_node};
+use crate::spans::Span;
 use node::{Kind, Shape};
-use records::coordinate::is_coordinate;
-use records::range::is_within;
-use records::raw::{Rectangle, SiteRecord};
-use search::verdict::{Verdict, Ways};
-use sites::question::{is_within_bounds, runs_forward};
+use records::raw::Rectangle;
+use search::verdict::Verdict;
+use sites::question::is_within_bounds;
+use sites::site::Site;
+
+/// The successors of a span, counted from 0; only an x span has the last.
+const LEFT: u8 = 0;
+
+const RIGHT: u8 = 1;
+
+const ACROSS: u8 = 2;
 
 /// The shape of a kind that a site chart knows.
 pub fn shape_of(kind: u32) -> Option<Shape>
     ensures { result ≡ site_judging.shape_of kind }
 {
-    match Kind::of_number(kind) {
-        Some(kind) => {
-            if is_known(kind) {
-                Some(kind.shape())
-            } else {
-                None
-            }
-        }
-        None => None,
-    }
+    Kind::try_from(kind)
+        .ok()
+        .filter(|kind| is_known(*kind))
+        .map(|kind| kind.shape())
 }
 
+// Every kind is named, so that a new one has to be decided here.
 fn is_known(kind: Kind) -> bool
     ensures { result ≡ is_known kind }
 {
@@ -44,148 +45,68 @@ fn is_known(kind: Kind) -> bool
 pub fn is_fit(kind: u32, numbers: &[i32]) -> bool
     ensures { result ≡ site_judging.is_fit kind numbers.now }
 {
-    match Kind::of_number(kind) {
-        Some(Kind::Empty) => numbers.len() == 0,
-        Some(Kind::XSpan) => is_fit_span(numbers),
-        Some(Kind::YSpan) => is_fit_span(numbers),
-        Some(Kind::Site) => is_fit_site(numbers),
-        _ => false,
-    }
-}
-
-/// Of an x span or a y span.
-fn is_fit_span(numbers: &[i32]) -> bool
-    ensures { result ≡ is_fit_as (Some YSpan) numbers.now }
-{
-    numbers.len() == 2 && runs_forward(numbers[0] as i64, numbers[1] as i64)
-}
-
-fn is_fit_site(numbers: &[i32]) -> bool
-    ensures { result ≡ is_fit_as (Some Site) numbers.now }
-{
-    numbers.len() == 3 && is_site(&site_told(numbers))
-}
-
-/// The site that three numbers tell.
-fn site_told(numbers: &[i32]) -> SiteRecord
-    requires { 3 ≤ length numbers.now }
-    ensures { result ≡ site_of numbers.now }
-{
-    SiteRecord {
-        number: numbers[0] as i64,
-        x: numbers[1] as i64,
-        y: numbers[2] as i64,
-    }
-}
-
-fn is_site(from: &SiteRecord) -> bool
-    ensures { result ≡ is_site from.now }
-{
-    is_within(1, 65_535, from.number) && is_coordinate(from.x) && is_coordinate(from.y)
+    fit_node(kind, numbers).is_some()
 }
 
 /// Judges a node by a rectangle: nothing for a rectangle out of bounds or unfit numbers.
 pub fn judge(question: &Rectangle, kind: u32, numbers: &[i32]) -> Verdict
     ensures { judgement_of result ≡ judged site_judging question.now kind numbers.now }
 {
-    if is_within_bounds(question) && is_fit(kind, numbers) {
-        judge_fit(question, kind, numbers)
-    } else {
-        nothing()
+    match fit_node(kind, numbers) {
+        Some(node) if is_within_bounds(question) => judge_fit(question, node),
+        _ => Verdict::nothing(),
     }
 }
 
-fn judge_fit(question: &Rectangle, kind: u32, numbers: &[i32]) -> Verdict
-    requires { is_fit_as (kind_numbered kind) numbers.now ≡ true }
-    ensures { judgement_of result ≡ judge_as question.now (kind_numbered kind) numbers.now }
+fn judge_fit(question: &Rectangle, node: FitNode) -> Verdict
+    ensures { judgement_of result ≡ judge_as question.now (Some (kind_of node)) (numbers_of node) }
 {
-    match Kind::of_number(kind) {
-        Some(Kind::XSpan) => judge_x_span(question, numbers),
-        Some(Kind::YSpan) => judge_y_span(question, numbers),
-        Some(Kind::Site) => judge_site(question, numbers),
-        _ => nothing(),
+    match node {
+        FitNode::Empty => Verdict::nothing(),
+        FitNode::XSpan(span) => judge_x_span(question, span),
+        FitNode::YSpan(span) => judge_y_span(question, span),
+        FitNode::Site(site) => judge_site(question, site),
     }
 }
 
-fn judge_x_span(question: &Rectangle, numbers: &[i32]) -> Verdict
-    requires { 2 ≤ length numbers.now }
-    ensures { judgement_of result ≡ judge_xspan question.now (number_at numbers.now 0) (number_at numbers.now 1) }
+// The spans of x and of y are judged by other sides of the rectangle, and only that of x leads across.
+fn judge_x_span(question: &Rectangle, span: Span) -> Verdict
+    ensures { judgement_of result ≡ judge_xspan question.now span.least span.greatest }
 {
-    let low = numbers[0] as i64;
-    let high = numbers[1] as i64;
+    let low = i64::from(span.least);
+    let high = i64::from(span.greatest);
     if high < question.west || question.east < low {
-        return nothing();
+        return Verdict::nothing();
     }
     if question.west <= low && high <= question.east {
-        return across();
+        return Verdict::to(ACROSS);
     }
     left_then_right()
 }
 
-fn judge_y_span(question: &Rectangle, numbers: &[i32]) -> Verdict
-    requires { 2 ≤ length numbers.now }
-    ensures { judgement_of result ≡ judge_yspan question.now (number_at numbers.now 0) (number_at numbers.now 1) }
+fn judge_y_span(question: &Rectangle, span: Span) -> Verdict
+    ensures { judgement_of result ≡ judge_yspan question.now span.least span.greatest }
 {
-    let low = numbers[0] as i64;
-    let high = numbers[1] as i64;
+    let low = i64::from(span.least);
+    let high = i64::from(span.greatest);
     if high < question.south || question.north < low {
-        return nothing();
+        return Verdict::nothing();
     }
     left_then_right()
 }
 
-fn judge_site(question: &Rectangle, numbers: &[i32]) -> Verdict
-    requires { is_fit_as (Some Site) numbers.now ≡ true }
-    ensures { judgement_of result ≡ judge_site question.now (site_of numbers.now) }
+fn judge_site(question: &Rectangle, site: Site) -> Verdict
+    ensures { judgement_of result ≡ judge_site question.now (raw_of site) }
 {
-    let site = site_told(numbers);
-    if is_inside(question, &site) {
-        emitted(&site)
+    if site.is_inside(question) {
+        Verdict::emitting(site.record_number())
     } else {
-        nothing()
-    }
-}
-
-fn is_inside(question: &Rectangle, site: &SiteRecord) -> bool
-    ensures { result ≡ is_inside question.now site.now }
-{
-    is_within(question.west, question.east, site.x)
-        && is_within(question.south, question.north, site.y)
-}
-
-fn emitted(site: &SiteRecord) -> Verdict
-    requires { is_site site.now ≡ true }
-    ensures { judgement_of result ≡ record { ways = []; emits = Some (unsigned_abs site.now.number) } }
-{
-    Verdict {
-        ways: Ways::Nowhere,
-        emits: Some(site.number as u16),
-    }
-}
-
-fn nothing() -> Verdict
-    ensures { judgement_of result ≡ none }
-{
-    Verdict {
-        ways: Ways::Nowhere,
-        emits: None,
-    }
-}
-
-fn across() -> Verdict
-    ensures { judgement_of result ≡ go_across }
-{
-    Verdict {
-        ways: Ways::To(2),
-        emits: None,
+        Verdict::nothing()
     }
 }
 
 fn left_then_right() -> Verdict
     ensures { judgement_of result ≡ left_then_right }
 {
-    Verdict {
-        ways: Ways::ToBoth(0, 1),
-        emits: None,
-    }
+    Verdict::to_both(LEFT, RIGHT)
 }

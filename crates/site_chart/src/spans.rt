@@ -1,9 +1,10 @@
 //! The least and the greatest coordinate of some sites.
-ghost use Rattle.std.specs.Prelude.{◌≡◌, ◌<◌, [], ◌∷◌, length};
-ghost use Rattle.site_figure.specs.Figure.{span_of};
-ghost use Rattle.site_chart.specs.Orders.{records_by_x, records_by_y};
+ghost use Rattle.std.specs.Prelude.{◌≡◌, [], ◌∷◌};
+ghost use Rattle.site_figure.specs.Figure.{span_of as span_told};
+ghost use Rattle.site_chart.specs.Along.{records_along};
 
-use crate::orders::{SiteByX, SiteByY};
+use crate::axes::Axis;
+use crate::orders::Along;
 
 #[derive(Clone, Copy)]
 pub(crate) struct Span {
@@ -11,30 +12,13 @@ pub(crate) struct Span {
     pub(crate) greatest: i32,
 }
 
-pub(crate) fn x_span_of(sites: &[SiteByX]) -> Span
-    requires { 0 < length sites.now }
-    ensures { result.least ∷ result.greatest ∷ [] ≡ span_of (λ s. s.x) (records_by_x sites.now) }
+/// Of no site both are 0.
+pub(crate) fn span_of<A: Axis>(sites: &[Along<A>]) -> Span
+    ensures { result.least ∷ result.greatest ∷ [] ≡ span_told A.coordinate (records_along sites.now) }
 {
-    let mut least = sites[0].site.x();
-    let mut greatest = least;
-    for i in 1..sites.len() {
-        let x = sites[i].site.x();
-        least = least.min(x);
-        greatest = greatest.max(x);
-    }
-    Span { least, greatest }
-}
-
-pub(crate) fn y_span_of(sites: &[SiteByY]) -> Span
-    requires { 0 < length sites.now }
-    ensures { result.least ∷ result.greatest ∷ [] ≡ span_of (λ s. s.y) (records_by_y sites.now) }
-{
-    let mut least = sites[0].site.y();
-    let mut greatest = least;
-    for i in 1..sites.len() {
-        let y = sites[i].site.y();
-        least = least.min(y);
-        greatest = greatest.max(y);
-    }
+    let coordinates = sites.iter().map(|s| A::coordinate(&s.site));
+    let least = coordinates.min().unwrap_or(0);
+    let coordinates = sites.iter().map(|s| A::coordinate(&s.site));
+    let greatest = coordinates.max().unwrap_or(0);
     Span { least, greatest }
 }

@@ -1,5 +1,4 @@
 pub mod Made
 pub mod Adding
-pub mod Contents
 pub mod Inside
 pub mod Orderly

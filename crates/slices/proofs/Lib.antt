@@ -1,9 +1,11 @@
 pub mod Tests
 pub mod Numbers
 pub mod Placing
+pub mod OneValue
 pub mod SortedLists
 pub mod Uniqueness
 pub mod Removing
 pub mod Rewriting
 pub mod Stacking
 pub mod Deciding
+pub mod Runs

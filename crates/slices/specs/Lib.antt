@@ -1,4 +1,5 @@
 pub mod Order
 pub mod Insertion
 pub mod Removal
+pub mod Runs
 pub mod Stacks

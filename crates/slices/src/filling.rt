@@ -6,7 +6,6 @@ ghost use Rattle.std.specs.Prelude.{◌≡◌, ◌-◌, ◌++◌, length, take, 
 pub fn fill_rest<T: Copy>(s: &mut [T], from: usize, value: T)
     ensures { s.new ≡ take from s.old ++ replicate (length s.old - from) value }
 {
-    for i in from..s.len() {
-        s[i] = value;
-    }
+    let begins = from.min(s.len());
+    s[begins..].fill_with(|| value);
 }

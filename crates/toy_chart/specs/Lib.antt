@@ -1,2 +1,3 @@
+pub mod Kinds
 pub mod Stones
 pub mod Lawful

@@ -1,20 +1,22 @@
 //! A chart of at most one stone: it shows that what every chart kind shows can be shown.
 #![tactic(auto)]
 
-ghost use Rattle.std.specs.Prelude.{◌≡◌, Bool, pos};
-ghost use Rattle.search.specs.Drafting.{drafted, draft_answer, drawn_so_far, sheet_with};
-ghost use Rattle.toy_chart.specs.Stones.{judging as stone_judging, drawing as stone_drawing, held as stones_held, rose_of, record_with, listed};
+ghost use Rattle.std.specs.Prelude.{◌≡◌, [], ◌∷◌, pos};
+ghost use Rattle.search.specs.Drafting.{DrawsRose};
+ghost use Rattle.search.specs.Sheet.{record_of};
+ghost use Rattle.toy_chart.specs.Stones.{judging as stone_judging, drawing as stone_drawing, held as stones_held, rose_of, listed};
 ghost use Rattle.toy_chart.specs.Lawful;
 
-mod number;
+mod kind;
 
-use crate::number::StoneNumber;
+use crate::kind::Kind;
 use node::Shape;
+use records::record_number::RecordNumber;
 use refusal::Refusal;
 use search::chart::Chart;
-use search::drafting::{Drawn, count_of, draw_node};
+use search::drafting::Draft;
 use search::sheet::SheetRecord;
-use search::verdict::{Verdict, Ways};
+use search::verdict::Verdict;
 
 #[derive(Clone, Copy)]
 pub struct Stone {
@@ -23,7 +25,7 @@ pub struct Stone {
 
 #[derive(Clone, Copy)]
 pub struct StoneChart {
-    stone: Option<StoneNumber>,
+    stone: Option<RecordNumber>,
 }
 
 impl Chart for StoneChart {
@@ -44,27 +46,27 @@ impl Chart for StoneChart {
     }
 
     fn add(&mut self, from: &Stone) -> Result<(), Refusal> {
-        let Some(number) = StoneNumber::new(from.number) else {
+        let Some(number) = RecordNumber::new(from.number) else {
             return Err(Refusal::FieldOutOfRange);
         };
-        if let Some(stone) = self.stone {
-            if stone.value() == number.value() {
-                return Err(Refusal::NumberHeld);
+        match self.stone.map(|stone| stone == number) {
+            Some(true) => Err(Refusal::NumberHeld),
+            Some(false) => Err(Refusal::RegisterFull),
+            None => {
+                self.stone = Some(number);
+                Ok(())
             }
-            return Err(Refusal::RegisterFull);
         }
-        self.stone = Some(number);
-        Ok(())
     }
 
     fn remove(&mut self, number: i64) -> Result<(), Refusal> {
-        if let Some(stone) = self.stone {
-            if stone.value() as i64 == number {
+        match self.stone {
+            Some(stone) if i64::from(stone.value()) == number => {
                 self.stone = None;
-                return Ok(());
+                Ok(())
             }
+            _ => Err(Refusal::NumberNotHeld),
         }
-        Err(Refusal::NumberNotHeld)
     }
 
     fn is_within_bounds(_question: &bool) -> bool {
@@ -72,84 +74,57 @@ impl Chart for StoneChart {
     }
 
     fn shape_of(kind: u32) -> Option<Shape> {
-        match kind {
-            0 => Some(Shape {
-                numbers: 0,
-                successors: 0,
-            }),
-            1 => Some(Shape {
-                numbers: 1,
-                successors: 0,
-            }),
-            2 => Some(Shape {
-                numbers: 0,
-                successors: 2,
-            }),
-            _ => None,
-        }
+        let (numbers, successors) = match Kind::try_from(kind) {
+            Ok(Kind::Nothing) => (0, 0),
+            Ok(Kind::Stone) => (1, 0),
+            Ok(Kind::NoneAndStone) => (0, 2),
+            Err(_) => return None,
+        };
+        Some(Shape {
+            numbers,
+            successors,
+        })
     }
 
     fn is_fit(kind: u32, numbers: &[i32]) -> bool {
-        match kind {
-            0 | 2 => numbers.len() == 0,
-            1 => numbers.len() == 1 && numbers[0] >= 1 && numbers[0] <= 65_535,
-            _ => false,
+        match Kind::try_from(kind) {
+            Ok(Kind::Stone) => numbers.len() == 1 && numbers[0] >= 1 && numbers[0] <= 65_535,
+            Ok(_) => numbers.is_empty(),
+            Err(_) => false,
         }
     }
 
     fn judge(_question: &bool, kind: u32, numbers: &[i32]) -> Verdict {
-        let mut verdict = Verdict {
-            ways: Ways::Nowhere,
-            emits: None,
-        };
         if !StoneChart::is_fit(kind, numbers) {
-            return verdict;
+            return Verdict::nothing();
         }
-        if kind == 1 {
-            verdict.emits = Some(numbers[0] as u16);
+        match Kind::try_from(kind) {
+            Ok(Kind::Stone) => Verdict::emitting(numbers[0] as u16),
+            Ok(Kind::NoneAndStone) => Verdict::to(1),
+            _ => Verdict::nothing(),
         }
-        if kind == 2 {
-            verdict.ways = Ways::To(1);
-        }
-        verdict
     }
 
     fn draw(&self, sheet: &mut [SheetRecord]) -> Result<usize, Refusal> {
-        count_of(draw_stones(self.stone, sheet))
+        let mut draft = Draft::new(sheet);
+        draw_stones(&mut draft, self.stone)?;
+        Ok(draft.len())
     }
 }
 
-fn draw_stones(stone: Option<StoneNumber>, sheet: &mut [SheetRecord]) -> Result<Drawn, Refusal>
-    ensures answer { result ≡ draft_answer sheet.old (drafted (drawn_so_far 0 sheet.old) (rose_of (listed stone))) }
-    ensures after { sheet.new ≡ sheet_with sheet.old (drafted (drawn_so_far 0 sheet.old) (rose_of (listed stone))).records }
+fn draw_stones(draft: &mut Draft<'_>, stone: Option<RecordNumber>) -> Result<u32, Refusal>
+    ensures { DrawsRose draft.old draft.new result (rose_of (listed stone)) }
 {
-    let none = draw_node(sheet, 0, record_with(0, 0, 0, 0))?;
+    let none = draft.draw(SheetRecord::of_node(Kind::Nothing.into(), &[], &[]))?;
     let Some(number) = stone else {
         return Ok(none);
     };
-    let some = draw_node(sheet, none.len, stone_record(number))?;
-    draw_node(sheet, some.len, record_with(2, 0, none.place, some.place))
+    let some = draft.draw(stone_record(number))?;
+    draft.draw(SheetRecord::of_node(Kind::NoneAndStone.into(), &[], &[none, some]))
 }
 
-fn stone_record(number: StoneNumber) -> SheetRecord
-    ensures { result ≡ record_with 1 (pos number.value) 0 0 }
+fn stone_record(number: RecordNumber) -> SheetRecord
+    ensures { result ≡ record_of (record { kind = 1; numbers = pos number.value ∷ []; successors = [] }) }
 {
-    let value = number.value() as i32;
-    SheetRecord {
-        kind: 1,
-        numbers: [value, 0, 0, 0],
-        successors: [0; 3],
-        digest: [0; 32],
-    }
-}
-
-fn record_with(kind: u32, number: i32, first: u32, second: u32) -> SheetRecord
-    ensures { result ≡ record_with kind number first second }
-{
-    SheetRecord {
-        kind,
-        numbers: [number, 0, 0, 0],
-        successors: [first, second, 0],
-        digest: [0; 32],
-    }
+    SheetRecord::of_node(Kind::Stone.into(), &[i32::from(number.value())], &[])
 }

@@ -2,20 +2,23 @@
 // (tests/make_vectors.py).
 #![tactic(auto)]
 
-mod hex;
+mod hashes;
 mod messages;
+mod outcome;
 mod parts;
 mod whole;
 
+use blake2s::Blake2s;
+use sha256::Sha256;
 use std::io;
 
 fn main(rt: HostRuntime) -> io::Result<()> {
-    whole::published::<sha256::Sha256>(rt, "sha256")?;
-    whole::published::<blake2s::Blake2s>(rt, "blake2s")?;
-    whole::every_length::<sha256::Sha256>(rt, "sha256")?;
-    whole::every_length::<blake2s::Blake2s>(rt, "blake2s")?;
-    whole::long::<sha256::Sha256>(rt, "sha256")?;
-    whole::long::<blake2s::Blake2s>(rt, "blake2s")?;
-    parts::sha256_in_parts(rt)?;
-    parts::blake2s_in_parts(rt)
+    whole::published::<Sha256>(rt)?;
+    whole::published::<Blake2s>(rt)?;
+    whole::every_length::<Sha256>(rt)?;
+    whole::every_length::<Blake2s>(rt)?;
+    whole::long::<Sha256>(rt)?;
+    whole::long::<Blake2s>(rt)?;
+    parts::in_parts::<Sha256>(rt)?;
+    parts::in_parts::<Blake2s>(rt)
 }

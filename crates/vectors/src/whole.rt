@@ -1,53 +1,45 @@
 // Digests of messages that are there whole.
-use crate::hex::Hex;
+use crate::hashes::Named;
 use crate::messages::counting;
-use digest::Hash;
+use crate::outcome::Outcome;
 use std::io;
 
-// A line with the name, the message's length and its digest, or the number of the refusal.
-fn report<H: Hash>(rt: HostRuntime, name: &str, message: &[u8]) -> io::Result<()> {
+// A line with the name, the message's length and the outcome.
+fn report<H: Named>(rt: HostRuntime, message: &[u8]) -> io::Result<()> {
+    let name = H::NAME;
     let size = message.len();
-    match H::hash(message) {
-        Ok(bytes) => {
-            let digest = Hex { bytes };
-            println!(rt; "{name} {size} {digest}")
-        }
-        Err(refusal) => {
-            let number = refusal.number();
-            println!(rt; "{name} {size} refused {number}")
-        }
-    }
+    let outcome = Outcome(H::hash(message));
+    println!(rt; "{name} {size} {outcome}")
 }
 
 // Messages that the standards and their publishers give digests of.
-pub fn published<H: Hash>(rt: HostRuntime, name: &str) -> io::Result<()> {
-    report::<H>(rt, name, b"")?;
-    report::<H>(rt, name, b"abc")?;
+pub fn published<H: Named>(rt: HostRuntime) -> io::Result<()> {
+    report::<H>(rt, b"")?;
+    report::<H>(rt, b"abc")?;
     report::<H>(
         rt,
-        name,
         b"abcdbcdecdefdefgefghfghighijhijkijkljklmklmnlmnomnopnopq",
     )?;
     report::<H>(
         rt,
-        name,
         b"abcdefghbcdefghicdefghijdefghijkefghijklfghijklmghijklmnhijklmnoijklmnopjklmnopqklmnopqrlmnopqrsmnopqrstnopqrstu",
     )
 }
 
-pub fn every_length<H: Hash>(rt: HostRuntime, name: &str) -> io::Result<()> {
+pub fn every_length<H: Named>(rt: HostRuntime) -> io::Result<()> {
+    // Each size is a case.
     for size in 0..301 {
         let message = counting(rt.alloc(), size)?;
-        report::<H>(rt, name, message.as_slice())?;
+        report::<H>(rt, message.as_slice())?;
     }
     Ok(())
 }
 
 // Up to the longest message, and one that is longer.
-pub fn long<H: Hash>(rt: HostRuntime, name: &str) -> io::Result<()> {
+pub fn long<H: Named>(rt: HostRuntime) -> io::Result<()> {
     for size in [1000, 65535, 65536] {
         let message = counting(rt.alloc(), size)?;
-        report::<H>(rt, name, message.as_slice())?;
+        report::<H>(rt, message.as_slice())?;
     }
     Ok(())
 }

@@ -1,10 +1,9 @@
--- What the numbers of a fit edge are, and on which side of it a point is.
+-- What the numbers of a fit edge are.
 use Rattle.std.proofs.Common.{◌≡◌, true, eqb, List, length, get_or, ℤ, pos}
 use lib.Signed.{lt_z}
 use Rattle.std.proofs.lemmas.Bool.{and_parts, eqb-true}
 use Rattle.records.specs.Range.{is_coordinate}
-use Rattle.records.specs.declared.raw.Point.{Point}
-use Rattle.zone_figure.specs.Judge.{edge_fits, is_above}
+use Rattle.zone_figure.specs.Judge.{edge_fits}
 
 pub record FitEdge (numbers : List ℤ) : Type 0 where
   pub four : length numbers ≡ 4
@@ -21,6 +20,3 @@ fit_edge numbers h =
     let y1 = and_parts _ (is_coordinate (get_or numbers 1 (pos 0))) x2.0 in
     let x1 = and_parts (eqb (length numbers) 4) (is_coordinate (get_or numbers 0 (pos 0))) y1.0 in
     record { four = eqb-true (length numbers) 4 x1.0; x1 = x1.1; y1 = y1.1; x2 = x2.1; y2 = y2.1 }
-
-pub same_side : (p : Point) (x y x1 y1 x2 y2 a b c d : ℤ) → x ≡ p.x → y ≡ p.y → x1 ≡ a → y1 ≡ b → x2 ≡ c → y2 ≡ d → is_above (record { x = x; y = y }) x1 y1 x2 y2 ≡ is_above p a b c d
-same_side p x y x1 y1 x2 y2 a b c d ex ey e1 f1 e2 f2 = λ i. is_above (record { x = ex i; y = ey i }) (e1 i) (f1 i) (e2 i) (f2 i)

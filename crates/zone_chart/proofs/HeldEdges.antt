@@ -1,17 +1,10 @@
--- What a register holds is few edges; the nodes of a figure of edges are of their kinds' shapes, whatever is held.
-use Rattle.std.proofs.Common.{◌≡◌, ◌≤◌, true, sym, subst, List, length, map, ℤ, Some, None, Option, ap, refl, arith}
+-- The nodes of a figure of edges are of their kinds' shapes, whatever is held.
+use Rattle.std.proofs.Common.{◌≡◌, true, sym, subst, List, ℤ, Some, None, Option, refl}
 use Rattle.std.specs.List.{AllByRecursion}
 use Rattle.std.proofs.ByRecursion.{All-weaker}
-use Rattle.std.proofs.lemmas.List.{length-map}
 use Rattle.records.specs.Range.{is_coordinate}
 use Rattle.records.specs.declared.raw.EdgeRecord.{EdgeRecord}
 use Rattle.records.specs.declared.raw.Point.{Point}
-use Rattle.records.proofs.Contents.{held_length}
-use Rattle.geometry.specs.declared.edge.Edge.{Edge}
-use Rattle.geometry.specs.Held.{raw_of}
-use Rattle.zones.specs.declared.register.ZoneRegister.{ZoneRegister}
-use Rattle.zones.specs.Register.{held}
-use Rattle.zones.proofs.Contents.{within}
 use Rattle.node.specs.declared.kind.Kind.TheVariants.{Split, Edge as EdgeKind, Zone}
 use Rattle.node.specs.Kinds.{shape_of}
 use Rattle.search.specs.Judging.{Judging}
@@ -25,11 +18,7 @@ use Rattle.zone_figure.proofs.Halving.{bounds_halve, elements_of}
 use Rattle.zone_figure.proofs.Bounds.{all_bounds}
 use Rattle.zone_figure.proofs.Fitness.{Parts, run_tree_fits}
 use Rattle.zone_figure.proofs.Slabs.{slab_fits as slab_fits_lem}
-use Rattle.zone_chart.proofs.Shapes.{shapes_in}
-
-pub few_edges : (r : ZoneRegister) (edges : List Edge) → map raw_of edges ≡ held r → length edges ≤ 64
-few_edges r edges is =
-    omega (arith, length-map edges raw_of, ap length is, held_length raw_of r.edges r.len (within r), r.few)
+use Rattle.search.proofs.Shapes.{shapes_in}
 
 abbrev pub zone_shapes : Judging Point
 zone_shapes = shapes_in zone_judging

@@ -1,9 +1,7 @@
 pub mod Fit
 pub mod Gathering
 pub mod Distinct
-pub mod Pairs
 pub mod Halved
 pub mod EdgeTrees
 pub mod RunTrees
-pub mod Shapes
 pub mod HeldEdges

@@ -1,5 +1,5 @@
 -- What the code's lists stand for.
-use Rattle.std.specs.Prelude.{Bool, true, List, [], ◌∷◌, map, ℤ, Option, int_lt}
+use Rattle.std.specs.Prelude.{List, map, ℤ, Option}
 use Rattle.std.specs.Option.{option_map}
 use Rattle.records.specs.declared.raw.EdgeRecord.{EdgeRecord}
 use Rattle.records.specs.declared.coordinate.Coordinate.{Coordinate}
@@ -21,9 +21,3 @@ value_of bound = bound.x.value
 -- A west bound; the first slab has none.
 abbrev pub west_of : Option Coordinate → Option ℤ
 west_of west = option_map (λ x. x.value) west
-
--- Of a rising list, whether the first is less than the one after it, or the only one left.
-abbrev pub is_last_of_its_value : List ℤ → Bool
-is_last_of_its_value [] = true
-is_last_of_its_value (x ∷ []) = true
-is_last_of_its_value (x ∷ y ∷ ys) = int_lt x y

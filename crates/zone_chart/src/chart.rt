@@ -11,7 +11,7 @@ use node::Shape;
 use records::raw::{EdgeRecord, Point};
 use refusal::Refusal;
 use search::chart::Chart;
-use search::drafting::count_of;
+use search::drafting::Draft;
 use search::sheet::SheetRecord;
 use search::verdict::Verdict;
 use zones::register::ZoneRegister;
@@ -66,6 +66,8 @@ impl Chart for ZoneChart {
     }
 
     fn draw(&self, sheet: &mut [SheetRecord]) -> Result<usize, Refusal> {
-        count_of(draw_zones(sheet, self.register.edges()))
+        let mut draft = Draft::new(sheet);
+        draw_zones(&mut draft, &self.register)?;
+        Ok(draft.len())
     }
 }

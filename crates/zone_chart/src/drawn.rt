@@ -18,8 +18,7 @@ impl DrawnChart for ZoneChart {
 fn read_numbers(edges: &[Edge])
     ensures { AllByRecursion (λ r. is_edge r ≡ true) (map raw_of edges.now) }
 {
-    for i in 0..edges.len() {
-        let edge = edges[i];
+    for edge in edges {
         let _number = edge.record_number();
         let _zone = edge.zone();
     }

@@ -8,7 +8,7 @@ ghost use Rattle.zone_figure.specs.Figure.{bounds_before};
 fn half(m: usize) -> usize
     ensures { result ≡ Half m }
 {
-    m - m / 2
+    m.div_ceil(2)
 }
 
 /// Of m edges, how many stand before edge ⌈m/2⌉, counted from 1.

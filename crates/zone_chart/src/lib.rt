@@ -3,10 +3,8 @@
 
 mod bounds;
 pub mod chart;
-mod coordinates;
 mod drawing;
 pub mod drawn;
-mod ends;
 mod fitness;
 mod halves;
 mod judging;

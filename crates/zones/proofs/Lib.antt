@@ -1,4 +1,3 @@
-pub mod Contents
 pub mod Adding
 pub mod Conflicts
 pub mod Looking

@@ -12,6 +12,7 @@ use script::write::{write_reply, write_sites};
 use std::alloc::AllocError;
 
 /// The reply of a call that was done, or its refusal.
+// A match here and below: both arms write to `out`, which the two closures of `map_or_else` cannot both hold.
 pub fn write_outcome(
     out: &mut Vec<u8>,
     outcome: Result<(), Refusal>,
@@ -39,7 +40,7 @@ impl Session {
         ensures { OnOk result (out.new.items ≡ out.old.items ++ ended (sites_line (question_refusal rectangle.now) (sites_in (state_of self.now).sites rectangle.now))) }
     {
         match self.sites.sites_in(rectangle) {
-            Ok(inside) => write_sites(out, inside.numbers()),
+            Ok(inside) => write_sites(out, inside.as_slice()),
             Err(refusal) => write_reply(out, Reply::Refused(refusal)),
         }
     }

@@ -70,6 +70,8 @@ impl Session {
         write_reply(out, Reply::Begun { kind, hash })
     }
 
+    // The two adds differ in the register, the record and the command that their contracts name.
+
     fn add_edge(&mut self, edge: EdgeRecord, out: &mut Vec<u8>) -> Result<(), AllocError>
         ensures printed { OnOk result (out.new.items ≡ out.old.items ++ printed (state_of self.old) (AddEdge edge)) }
         ensures left { state_of self.new ≡ left (state_of self.old) (AddEdge edge) }

@@ -14,21 +14,18 @@ use zones::register::ZoneRegister;
 pub fn list_edges(register: &ZoneRegister, out: &mut Vec<u8>) -> Result<(), AllocError>
     ensures { OnOk result (out.new.items ≡ out.old.items ++ flat_map (λ e. ended (line_of_edge e)) (zone_register.held register.now)) }
 {
-    for place in 0..register.len() {
-        if let Some(edge) = register.record(place) {
-            write_reply(out, Reply::Edge(edge))?;
-        }
+    for edge in register.edges() {
+        write_reply(out, Reply::Edge(edge.raw()))?;
     }
     Ok(())
 }
 
+// A loop each, with its own record and reply: a trait over both would be longer than the two loops.
 pub fn list_sites(register: &SiteRegister, out: &mut Vec<u8>) -> Result<(), AllocError>
     ensures { OnOk result (out.new.items ≡ out.old.items ++ flat_map (λ s. ended (line_of_site s)) (site_register.held register.now)) }
 {
-    for place in 0..register.len() {
-        if let Some(site) = register.record(place) {
-            write_reply(out, Reply::Place(site))?;
-        }
+    for site in register.sites() {
+        write_reply(out, Reply::Place(site.raw()))?;
     }
     Ok(())
 }

@@ -18,22 +18,14 @@ impl Edge {
     fn west_limit(&self, other: &Edge) -> Coordinate
         ensures { result.value ≡ west_limit (raw_of self.now) (raw_of other.now) }
     {
-        if other.x1.value() < self.x1.value() {
-            self.x1
-        } else {
-            other.x1
-        }
+        self.x1.max(other.x1)
     }
 
     // Where it ends.
     fn east_limit(&self, other: &Edge) -> Coordinate
         ensures { result.value ≡ east_limit (raw_of self.now) (raw_of other.now) }
     {
-        if other.x2.value() < self.x2.value() {
-            other.x2
-        } else {
-            self.x2
-        }
+        self.x2.min(other.x2)
     }
 
     // How far self stands above the other at x, by sign.
@@ -49,7 +41,6 @@ impl Edge {
     {
         let west = self.west_limit(other);
         let east = self.east_limit(other);
-        west.value() < east.value()
-            && touch_or_cross(self.rise(other, west), self.rise(other, east))
+        west < east && touch_or_cross(self.rise(other, west), self.rise(other, east))
     }
 }

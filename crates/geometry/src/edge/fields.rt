@@ -1,11 +1,13 @@
 // An edge made from a raw record, and read again.
 ghost use Rattle.std.specs.Prelude.{◌≡◌, pos, if◌then◌else◌, Some, None};
 ghost use Rattle.std.specs.Option.{option_map};
-ghost use Rattle.geometry.specs.Edge.{is_edge};
+ghost use Rattle.geometry.specs.Edge.{is_edge, left_end, right_end};
 ghost use Rattle.geometry.specs.Held.{raw_of};
+ghost use Rattle.records.specs.Positions.{point_of};
 
 use super::Edge;
 use records::coordinate::Coordinate;
+use records::position::Position;
 use records::raw::EdgeRecord;
 use records::record_number::RecordNumber;
 use records::zone::{Zone, zone_number};
@@ -21,20 +23,19 @@ impl Edge {
         let x2 = Coordinate::new(raw.x2)?;
         let y2 = Coordinate::new(raw.y2)?;
         let zone = zone_number(raw.zone)?;
-        if x1.value() >= x2.value() {
+        if x1 >= x2 {
             return None;
         }
         Some(Edge {
-            number: number,
-            x1: x1,
-            y1: y1,
-            x2: x2,
-            y2: y2,
-            zone: zone,
+            number,
+            x1,
+            y1,
+            x2,
+            y2,
+            zone,
         })
     }
 
-    // The record that the edge was made from.
     /// What fills the places of a register that no edge is in.
     pub fn filler() -> Edge
         ensures { raw_of result ≡ record { number = pos 1; x1 = pos 0; y1 = pos 0; x2 = pos 1; y2 = pos 0; zone = pos 0 } }
@@ -49,6 +50,7 @@ impl Edge {
         }
     }
 
+    // The record that the edge was made from.
     pub fn raw(&self) -> EdgeRecord
         ensures { result ≡ raw_of self.now }
     {
@@ -59,6 +61,26 @@ impl Edge {
             x2: i64::from(self.x2.value()),
             y2: i64::from(self.y2.value()),
             zone: i64::from(self.zone),
+        }
+    }
+
+    // Its left end.
+    pub fn left(&self) -> Position
+        ensures { point_of result ≡ left_end (raw_of self.now) }
+    {
+        Position {
+            x: self.x1,
+            y: self.y1,
+        }
+    }
+
+    // Its right end.
+    pub fn right(&self) -> Position
+        ensures { point_of result ≡ right_end (raw_of self.now) }
+    {
+        Position {
+            x: self.x2,
+            y: self.y2,
         }
     }
 

@@ -26,9 +26,6 @@ impl Fraction {
         ensures over { result.over ≡ over }
         ensures under { result.under ≡ under }
     {
-        Fraction {
-            over: over,
-            under: under,
-        }
+        Fraction { over, under }
     }
 }

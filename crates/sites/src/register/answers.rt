@@ -17,11 +17,13 @@ impl SiteRegister {
         if !is_within_bounds(question) {
             return Err(Refusal::QuestionOutOfBounds);
         }
-        let mut inside = SiteList::new();
-        for i in 0..self.len {
-            let site = self.sites[i];
+        let mut inside = SiteList::new(0);
+        for site in self.sites() {
             if site.is_inside(question) {
-                inside.put(site.record_number());
+                match inside.insert(site.record_number()) {
+                    Ok(()) => {}
+                    Err(_) => unreachable(),
+                }
             }
         }
         Ok(inside)

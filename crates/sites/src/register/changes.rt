@@ -10,7 +10,6 @@ use crate::site::Site;
 use records::numbered::{place_of, take_out};
 use records::raw::SiteRecord;
 use refusal::Refusal;
-use slices::insert;
 
 impl SiteRegister {
     pub fn add(&mut self, from: SiteRecord) -> Result<(), Refusal>
@@ -20,26 +19,16 @@ impl SiteRegister {
         let Some(site) = Site::new(from) else {
             return Err(Refusal::FieldOutOfRange);
         };
-        let len = self.len;
-        if place_of(&self.sites[..len], from.number).is_some() {
+        if place_of(self.sites.as_slice(), from.number).is_some() {
             return Err(Refusal::NumberHeld);
         }
-        match insert(&mut self.sites, len, site) {
-            Ok(longer) => {
-                self.len = longer;
-                Ok(())
-            }
-            Err(_) => Err(Refusal::RegisterFull),
-        }
+        self.sites.insert(site).map_err(|_| Refusal::RegisterFull)
     }
 
     pub fn remove(&mut self, number: i64) -> Result<(), Refusal>
         ensures answer { result ≡ answered (remove_refusal number_of (held self.old) number) tt }
         ensures after { held self.new ≡ unless_refused (remove_refusal number_of (held self.old) number) (taken_out number_of number (held self.old)) (held self.old) }
     {
-        let len = self.len;
-        let shorter = take_out(&mut self.sites, len, number)?;
-        self.len = shorter;
-        Ok(())
+        take_out(&mut self.sites, number)
     }
 }

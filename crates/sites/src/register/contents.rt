@@ -7,6 +7,7 @@ ghost use Rattle.sites.specs.Site.{raw_of};
 use super::SiteRegister;
 use crate::site::Site;
 use records::raw::SiteRecord;
+use slices::Run;
 
 impl SiteRegister {
     /// A fresh register holds nothing.
@@ -14,15 +15,14 @@ impl SiteRegister {
         ensures { held result ≡ [] }
     {
         SiteRegister {
-            sites: [Site::filler(); 128],
-            len: 0,
+            sites: Run::new(Site::filler()),
         }
     }
 
     pub fn len(&self) -> usize
         ensures { result ≡ length (held self.now) }
     {
-        self.len
+        self.sites.len()
     }
 
     /// The sites held, in rising number.
@@ -30,17 +30,13 @@ impl SiteRegister {
         ensures held { map raw_of result.now ≡ held self.now }
         ensures few { length result.now ≤ 128 }
     {
-        &self.sites[..self.len]
+        self.sites.as_slice()
     }
 
     /// The record at a place, counted from 0 in rising number.
     pub fn record(&self, place: usize) -> Option<SiteRecord>
         ensures { result ≡ slice_get (held self.now) place }
     {
-        if place < self.len {
-            Some(self.sites[place].raw())
-        } else {
-            None
-        }
+        self.sites().get(place).map(|site| site.raw())
     }
 }

@@ -35,9 +35,9 @@ impl Site {
         ensures { result ≡ raw_of self.now }
     {
         SiteRecord {
-            number: self.number.value() as i64,
-            x: self.x.value() as i64,
-            y: self.y.value() as i64,
+            number: i64::from(self.number.value()),
+            x: i64::from(self.x.value()),
+            y: i64::from(self.y.value()),
         }
     }
 

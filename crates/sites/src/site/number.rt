@@ -18,7 +18,7 @@ impl Numbered for Site {
     ghost number_of = { λ s. pos s.number.value };
 
     fn number(&self) -> i64 {
-        self.record_number() as i64
+        i64::from(self.record_number())
     }
 }
 

@@ -1,39 +1,24 @@
-use Rattle.std.proofs.Common.{Err, ap, ◌∙◌}
-use Rattle.std.proofs.lemmas.Result.{err_from_is_err_and}
-use Rattle.toy_chart.proofs.Drawings.{at_none, at_some, first_call, second_call, third_call, first_refused, second_refused}
+use Rattle.std.proofs.Common.{[], ◌∷◌, pos}
+use Rattle.search.proofs.Sequences.{passed_on}
+use Rattle.search.proofs.Successors.{rose_alike, leaf_drawn, two_second, two_last}
+use Rattle.toy_chart.proofs.Drawings.{nothing_here, stone_here, of_kind, leaf_of_kind, rose_of_stone}
 use Rattle.toy_chart.proofs.draw_stones.Goals as goal
-
-pub returns-in_err-none : goal.returns-in_err-none
-returns-in_err-none c =
-    let sheet = c.args.sheet.now in
-    let q = err_from_is_err_and c.from_residual.result c.from_residual.ensures.1 in
-    let call = first_call sheet c.record_with.result c.record_with.ensures _ _ c.in_err-none.ensures.answer c.in_err-none.ensures.after in
-    let whole = first_refused sheet c.args.stone c.in_err-none.field-0.0 call.answered in
-    record { answer = q.1 ∙ ap Err q.2 ∙ whole.answered; after = call.leaves ∙ whole.leaves }
-
-pub returns-in_default : goal.returns-in_default
-returns-in_default c =
-    let sheet = c.args.sheet.now in
-    let call = first_call sheet c.record_with.result c.record_with.ensures _ _ c.in_ok-none.ensures.answer c.in_ok-none.ensures.after in
-    let whole = at_none sheet c.args.stone _ _ c.in_default.is call in
-    record { answer = whole.answered; after = whole.leaves }
 
 pub returns-in_err-some : goal.returns-in_err-some
 returns-in_err-some c =
-    let sheet = c.args.sheet.now in
+    let before = c.args.draft.now in
     let number = c.in-Some.number in
-    let q = err_from_is_err_and c.from_residual-in_err-some.result c.from_residual-in_err-some.ensures.1 in
-    let call = first_call sheet c.record_with.result c.record_with.ensures _ _ c.in_ok-none.ensures.answer c.in_ok-none.ensures.after in
-    let later = second_call sheet number _ c.in_ok-none.none call.answered call.leaves c.stone_record.result c.stone_record.ensures _ _ c.in_err-some.ensures.answer c.in_err-some.ensures.after in
-    let whole = at_some sheet c.args.stone number _ _ c.in-Some.is (second_refused sheet number c.in_err-some.field-0.0 later.answered) in
-    record { answer = q.1 ∙ ap Err q.2 ∙ whole.answered; after = later.leaves ∙ whole.leaves }
+    let none = leaf_of_kind before c.draw.new.self _ 0 _ [] _ c.into.ensures c.of_node.ensures c.in_ok-none.ensures in
+    let some = leaf_drawn c.draw.new.self c.draw-2.new.self _ 1 (pos number.value ∷ []) _ c.stone_record.ensures c.in_err-some.ensures in
+    let told = two_second before 2 [] nothing_here (stone_here number) c.draw.new.self c.in_ok-none.none none _ _ some in
+    passed_on _ _ _ _ c.from_residual-in_err-some.result c.from_residual-in_err-some.ensures.1 (rose_alike before _ _ _ _ (rose_of_stone c.args.stone number c.in-Some.is) told)
 
 pub returns : goal.returns
 returns c =
-    let sheet = c.args.sheet.now in
+    let before = c.args.draft.now in
     let number = c.in-Some.number in
-    let call = first_call sheet c.record_with.result c.record_with.ensures _ _ c.in_ok-none.ensures.answer c.in_ok-none.ensures.after in
-    let later = second_call sheet number _ c.in_ok-none.none call.answered call.leaves c.stone_record.result c.stone_record.ensures _ _ c.in_ok-some.ensures.answer c.in_ok-some.ensures.after in
-    let last = third_call sheet number _ c.in_ok-none.none call.answered call.leaves _ c.in_ok-some.some later.answered later.leaves c.record_with-2.result c.record_with-2.ensures _ _ c.draw_node-3.ensures.answer c.draw_node-3.ensures.after in
-    let whole = at_some sheet c.args.stone number _ _ c.in-Some.is last in
-    record { answer = whole.answered; after = whole.leaves }
+    let none = leaf_of_kind before c.draw.new.self _ 0 _ [] _ c.into.ensures c.of_node.ensures c.in_ok-none.ensures in
+    let some = leaf_drawn c.draw.new.self c.draw-2.new.self _ 1 (pos number.value ∷ []) _ c.stone_record.ensures c.in_ok-some.ensures in
+    let node = of_kind 2 _ [] (c.in_ok-none.none ∷ c.in_ok-some.some ∷ []) _ c.into-2.ensures c.of_node-2.ensures in
+    let told = two_last before 2 [] nothing_here (stone_here number) c.draw.new.self c.in_ok-none.none none c.draw-2.new.self c.in_ok-some.some some c.of_node-2.result node _ _ c.draw-3.ensures in
+    rose_alike before _ _ _ _ (rose_of_stone c.args.stone number c.in-Some.is) told

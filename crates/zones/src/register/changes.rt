@@ -11,7 +11,6 @@ use geometry::edge::Edge;
 use records::numbered::{place_of, take_out};
 use records::raw::EdgeRecord;
 use refusal::Refusal;
-use slices::insert;
 
 /// How many edges a register has room for.
 const ROOM: usize = 64;
@@ -24,21 +23,17 @@ impl ZoneRegister {
         let Some(edge) = Edge::new(from) else {
             return Err(Refusal::FieldOutOfRange);
         };
-        let len = self.len;
-        if place_of(&self.edges[..len], from.number).is_some() {
+        if place_of(self.edges.as_slice(), from.number).is_some() {
             return Err(Refusal::NumberHeld);
         }
-        if len >= ROOM {
+        if self.len() >= ROOM {
             return Err(Refusal::RegisterFull);
         }
         if self.has_conflict(&edge) {
             return Err(Refusal::EdgeConflict);
         }
-        match insert(&mut self.edges, len, edge) {
-            Ok(longer) => {
-                self.len = longer;
-                Ok(())
-            }
+        match self.edges.insert(edge) {
+            Ok(()) => Ok(()),
             Err(_) => unreachable(),
         }
     }
@@ -47,21 +42,13 @@ impl ZoneRegister {
     fn has_conflict(&self, edge: &Edge) -> bool
         ensures { result ≡ conflicts_with_any (raw_of edge.now) (held self.now) }
     {
-        for i in 0..self.len {
-            if edge.conflicts_with(&self.edges[i]) {
-                return true;
-            }
-        }
-        false
+        self.edges().iter().any(|other| edge.conflicts_with(other))
     }
 
     pub fn remove(&mut self, number: i64) -> Result<(), Refusal>
         ensures answer { result ≡ answered (remove_refusal number_of (held self.old) number) tt }
         ensures after { held self.new ≡ unless_refused (remove_refusal number_of (held self.old) number) (taken_out number_of number (held self.old)) (held self.old) }
     {
-        let len = self.len;
-        let shorter = take_out(&mut self.edges, len, number)?;
-        self.len = shorter;
-        Ok(())
+        take_out(&mut self.edges, number)
     }
 }

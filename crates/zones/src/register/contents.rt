@@ -1,5 +1,5 @@
 //! A fresh register, and what a register holds.
-ghost use Rattle.std.specs.Prelude.{◌≡◌, [], map, length};
+ghost use Rattle.std.specs.Prelude.{◌≡◌, ◌≤◌, [], map, length};
 ghost use Rattle.std.specs.List.{slice_get};
 ghost use Rattle.geometry.specs.Held.{raw_of};
 ghost use Rattle.zones.specs.Register.{held};
@@ -7,6 +7,7 @@ ghost use Rattle.zones.specs.Register.{held};
 use super::ZoneRegister;
 use geometry::edge::Edge;
 use records::raw::EdgeRecord;
+use slices::Run;
 
 impl ZoneRegister {
     /// A fresh register holds nothing.
@@ -14,32 +15,28 @@ impl ZoneRegister {
         ensures { held result ≡ [] }
     {
         ZoneRegister {
-            edges: [Edge::filler(); 64],
-            len: 0,
+            edges: Run::new(Edge::filler()),
         }
     }
 
     pub fn len(&self) -> usize
         ensures { result ≡ length (held self.now) }
     {
-        self.len
+        self.edges.len()
     }
 
     /// The record at a place, counted from 0 in rising number.
     pub fn record(&self, place: usize) -> Option<EdgeRecord>
         ensures { result ≡ slice_get (held self.now) place }
     {
-        if place < self.len {
-            Some(self.edges[place].raw())
-        } else {
-            None
-        }
+        self.edges().get(place).map(|edge| edge.raw())
     }
 
     /// The edges held, in rising number.
     pub fn edges(&self) -> &[Edge]
-        ensures { map raw_of result.now ≡ held self.now }
+        ensures held { map raw_of result.now ≡ held self.now }
+        ensures few { length result.now ≤ 64 }
     {
-        &self.edges[..self.len]
+        self.edges.as_slice()
     }
 }

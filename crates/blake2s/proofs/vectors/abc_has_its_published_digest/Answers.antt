@@ -1,8 +1,8 @@
 use Rattle.std.proofs.Common.{refl}
-use Rattle.blake2s.specs.Mixing.{first_half, second_half, G, chosen, columns, diagonals, rounds, started, folded, F}
+use Rattle.blake2s.specs.Mixing.{half, G, chosen, columns, diagonals, rounds, started, folded, F}
 use Rattle.blake2s.specs.Standard.{first_state, after, finished, blake2s}
 use Rattle.blake2s.proofs.vectors.abc_has_its_published_digest.Goals as goal
 
 pub returns : goal.returns
-unfolding first_half second_half G chosen columns diagonals rounds started folded F first_state after finished blake2s
+unfolding half G chosen columns diagonals rounds started folded F first_state after finished blake2s
 returns c = refl

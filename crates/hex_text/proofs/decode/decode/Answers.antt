@@ -1,8 +1,8 @@
-use Rattle.std.proofs.Common.{◌≡◌, ℕ, [], ◌∷◌, ◌++◌, is_some, vec_items, unwrap_or, sym, refl, ap, ◌∙◌, arith}
+use Rattle.std.proofs.Common.{◌≡◌, ℕ, ◌/◌, ◌<◌, length, [], ◌∷◌, ◌++◌, is_some, vec_items, unwrap_or, sym, refl, ap, ◌∙◌, arith}
 use Rattle.std.proofs.lemmas.List.{append-nil}
 use Rattle.std.proofs.lemmas.Result.{IfOk-from_err}
 use Rattle.hex_text.specs.Hex.{bytes_in}
-use Rattle.hex_text.proofs.Pairs.{bytes_in_lem, length_bytes_in, none_decoded, digits_within, byte_at, bytes_more, bytes_all}
+use Rattle.hex_text.proofs.Pairs.{bytes_in_lem, length_bytes_in, none_decoded, byte_at, bytes_more, bytes_all, pair_is, pairs_counted}
 use Rattle.hex_text.proofs.Written.{left_alone}
 use Rattle.hex_text.proofs.decode.decode.Goals as goal
 
@@ -26,49 +26,47 @@ returns-in_err-reserve c =
       room = omega (arith, c.in_err-reserve.ensures.capacity);
     }
 
-pub loop-i-init : goal.loop-i-init
-loop-i-init c =
+pub loop-high-init : goal.loop-high-init
+loop-high-init c =
     let long = length_bytes_in c.args.text.now c.in-Some.count c.in-Some.ensures in
     (sym (append-nil _), (omega (arith, c.in_ok-reserve.ensures.ok), omega arith))
 
-pub bounds-text-i : goal.bounds-text-i
-bounds-text-i c =
-    let within = digits_within c.args.text.now c.in-Some.count c.loop-i.i c.in-Some.ensures (omega arith) in
-    omega arith
-
-pub bounds-text-i-in-loop-i : goal.bounds-text-i-in-loop-i
-bounds-text-i-in-loop-i c = digits_within c.args.text.now c.in-Some.count c.loop-i.i c.in-Some.ensures (omega arith)
-
 pub unreachable-requires : goal.unreachable-requires
 unreachable-requires c =
-    let here = c.in-None.ensures in
-    let e = byte_at c.args.text.now c.in-Some.count c.loop-i.i c.in-Some.ensures (omega arith) in
+    let size = pairs_counted c.args.text.now c.in-Some.count c.in-Some.ensures in
+    let inside : c.loop-high.high-index < length c.args.text.now / 2 = omega arith in
+    let here = c.in-None.ensures ∙ pair_is c.args.text.now c.as_chunks.result.0.now _ c.loop-high.high-index c.as_chunks.ensures.front inside in
+    let e = byte_at c.args.text.now c.in-Some.count c.loop-high.high-index c.in-Some.ensures (omega arith) in
     let z : ◌≡◌ {A = ℕ} 0 1 = cc in
     omega arith
 
 pub append_byte-requires : goal.append_byte-requires
 append_byte-requires c =
+    let size = pairs_counted c.args.text.now c.in-Some.count c.in-Some.ensures in
     let long = length_bytes_in c.args.text.now c.in-Some.count c.in-Some.ensures in
-    omega (arith, c.loop-i.invariant.1)
+    omega (arith, c.loop-high.invariant.1)
 
-pub loop-i-preserved : goal.loop-i-preserved
-loop-i-preserved c =
+pub loop-high-preserved : goal.loop-high-preserved
+loop-high-preserved c =
+    let size = pairs_counted c.args.text.now c.in-Some.count c.in-Some.ensures in
+    let inside : c.loop-high.high-index < length c.args.text.now / 2 = omega arith in
     let long = length_bytes_in c.args.text.now c.in-Some.count c.in-Some.ensures in (
       c.append_byte.ensures.items
-          ∙ (ap (λ xs. xs ++ c.in-Some-pair_value.byte ∷ []) c.loop-i.invariant.0
-          ∙ bytes_more (vec_items c.reserve.new.self) c.args.text.now c.in-Some.count c.loop-i.i c.in-Some-pair_value.byte c.in-Some.ensures (omega arith) c.in-Some-pair_value.ensures),
-      (omega (arith, c.loop-i.invariant.1), omega (arith, c.loop-i.invariant.1)),
+          ∙ (ap (λ xs. xs ++ c.in-Some-pair_value.byte ∷ []) c.loop-high.invariant.0
+          ∙ bytes_more (vec_items c.reserve.new.self) c.args.text.now c.in-Some.count c.loop-high.high-index c.in-Some-pair_value.byte c.in-Some.ensures (omega arith) (c.in-Some-pair_value.ensures ∙ pair_is c.args.text.now c.as_chunks.result.0.now _ c.loop-high.high-index c.as_chunks.ensures.front inside)),
+      (omega (arith, c.loop-high.invariant.1), omega (arith, c.loop-high.invariant.1)),
     )
 
 pub returns : goal.returns
 returns c =
+    let size = pairs_counted c.args.text.now c.in-Some.count c.in-Some.ensures in
     let long = length_bytes_in c.args.text.now c.in-Some.count c.in-Some.ensures in
     record {
       answer = ap is_some (sym (bytes_in_lem c.args.text.now c.in-Some.count c.in-Some.ensures));
       items =
-          c.loop-i.invariant.0
-          ∙ (bytes_all (vec_items c.reserve.new.self) (bytes_in c.args.text.now) c.loop-i.i (omega arith)
+          c.loop-high.invariant.0
+          ∙ (bytes_all (vec_items c.reserve.new.self) (bytes_in c.args.text.now) c.loop-high.high-index (omega arith)
           ∙ ap (λ xs. xs ++ bytes_in c.args.text.now) c.in_ok-reserve.ensures.items);
       succeeds = λ _. refl;
-      room = omega (arith, c.in_ok-reserve.ensures.capacity, c.loop-i.invariant.1);
+      room = omega (arith, c.in_ok-reserve.ensures.capacity, c.loop-high.invariant.1);
     }

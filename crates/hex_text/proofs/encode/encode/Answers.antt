@@ -1,11 +1,13 @@
-use Rattle.std.proofs.Common.{◌++◌, get_or, vec_items, refl, ap, ◌∙◌, arith}
+use Rattle.std.proofs.Common.{◌<◌, ◌++◌, length, get_or, vec_items, refl, ap, ◌∙◌, arith}
+use Rattle.std.proofs.lemmas.Bool.Decides.{nat_tests}
 use Rattle.hex_text.specs.Hex.{digits_of, hex_of}
 use Rattle.hex_text.proofs.Written.{digits_more, digits_all, left_alone, length_hex}
 use Rattle.hex_text.proofs.encode.encode.Goals as goal
 
 pub returns-in_err-reserve : goal.returns-in_err-reserve
 returns-in_err-reserve c =
-    let long = length_hex c.args.bytes.now (omega arith) in
+    let some : 0 < length c.args.bytes.now = grind (arith, nat_tests) in
+    let long = length_hex c.args.bytes.now some in
     record {
       items = left_alone (vec_items c.args.out.now) (vec_items c.reserve.new.self) (hex_of c.args.bytes.now) c.from_residual.result c.from_residual.ensures.0 c.in_err-reserve.ensures.items;
       succeeds = λ h. absurd (omega (arith, c.in_err-reserve.ensures.full));
@@ -25,10 +27,11 @@ loop-byte-preserved c = (
 
 pub returns : goal.returns
 returns c =
+    let some : 0 < length c.args.bytes.now = grind (arith, nat_tests) in
     record {
       items =
           c.loop-byte.invariant.0
-          ∙ (digits_all (vec_items c.reserve.new.self) c.args.bytes.now c.loop-byte.byte-index (omega arith) (omega arith)
+          ∙ (digits_all (vec_items c.reserve.new.self) c.args.bytes.now c.loop-byte.byte-index some (omega arith)
           ∙ ap (λ xs. xs ++ hex_of c.args.bytes.now) c.in_ok-reserve.ensures.items);
       succeeds = λ _. refl;
       room = omega (arith, c.in_ok-reserve.ensures.capacity, c.loop-byte.invariant.1);

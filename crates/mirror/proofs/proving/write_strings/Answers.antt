@@ -1,52 +1,36 @@
-use Rattle.std.proofs.Common.{◌≡◌, ◌-◌, [], ◌∷◌, length, take, Ok, sym, ap, ◌∙◌, subst, arith}
+use Rattle.std.proofs.Common.{◌≡◌, ◌-◌, [], ◌∷◌, length, take, Ok, Err, sym, ap, ◌∙◌, subst}
+use Rattle.std.proofs.lemmas.Result.{err_from_is_err_and}
 use Rattle.reader.specs.Reading.{map_ok}
 use Rattle.calls.specs.Proving.{all_bytes}
-use Rattle.calls.specs.Sheets.{digests_on, nodes_in}
-use Rattle.search.specs.Walk.{most_waiting}
+use Rattle.calls.specs.Sheets.{nodes_of, stored_digests}
 use Rattle.slices.specs.Stacks.{contents}
 use Rattle.mirror.specs.Steps.{summed}
-use Rattle.mirror.proofs.Chains.{ok_same, ok_not_err}
-use Rattle.mirror.proofs.Popping.{begins, none_left, places_kept, taken}
+use Rattle.calls.proofs.Chains.{ok_same, not_ok}
+use Rattle.mirror.proofs.Popping.{none_left, taken}
 use Rattle.mirror.proofs.Written.{ends, goes_on_lem, none_so_far, turned_off}
 use Rattle.mirror.proofs.proving.write_strings.Goals as goal
 
 pub loop-place-init : goal.loop-place-init
 loop-place-init g c =
-    let stack = c.new-stack.result in
-    let judging = g.C.Chart.judging in
-    let long : length stack.places.now ≡ most_waiting = ap length c.new-stack.ensures.lent in
-    let one = begins stack (c.args.count - 1) (contents c.push.new.self) c.new-stack.ensures.empty long c.push.ensures.after in (
-      places_kept stack (c.args.count - 1) c.push.new.self.places.now c.push.ensures.lent ∙ long,
-      none_so_far judging c.args.question.now (nodes_in judging c.args.sheet.now c.args.count) (digests_on c.args.sheet.now c.args.count) ((c.args.count - 1) ∷ []) (contents c.push.new.self) c.args.buffer.now (length c.args.buffer.now) one,
-    )
+    let asked = c.args.asked.now in
+    none_so_far g.C.Chart.judging asked.question.now (nodes_of g.C.Chart.judging asked.counted.now) (stored_digests asked.counted.now) ((length asked.counted.now - 1) ∷ []) (contents c.at_root-waiting.result.stack) c.args.buffer.now (length c.args.buffer.now) c.at_root-waiting.ensures
 
 pub loop-place-preserved : goal.loop-place-preserved
 loop-place-preserved g c =
-    let judging = g.C.Chart.judging in
-    let top = taken (contents c.loop-place.stack) (contents c.pop.new.self) c.in-Some.place c.in-Some.ensures.answer c.in-Some.ensures.after in
-    let turned = goes_on_lem judging c.args.question.now (nodes_in judging c.args.sheet.now c.args.count) (digests_on c.args.sheet.now c.args.count) ((c.args.count - 1) ∷ [])
-    (length c.args.buffer.now) c.in-Some.place (contents c.loop-place.stack) (contents c.pop.new.self) (contents c.take_node.new.stack) c.loop-place.buffer c.take_node.new.buffer
-    c.loop-place.proved.strings c.loop-place.proved.bytes c.in-Ok.end
-    c.loop-place.invariant.1 top c.loop-place.auto.buffer c.in-Ok.ensures.answer c.in-Ok.ensures.leaves in
-    (c.take_node.ensures.places, turned.so_far)
-
-pub loop-place-smaller : goal.loop-place-smaller
-loop-place-smaller g c =
-    let judging = g.C.Chart.judging in
-    let top = taken (contents c.loop-place.stack) (contents c.pop.new.self) c.in-Some.place c.in-Some.ensures.answer c.in-Some.ensures.after in
-    let turned = goes_on_lem judging c.args.question.now (nodes_in judging c.args.sheet.now c.args.count) (digests_on c.args.sheet.now c.args.count) ((c.args.count - 1) ∷ [])
-    (length c.args.buffer.now) c.in-Some.place (contents c.loop-place.stack) (contents c.pop.new.self) (contents c.take_node.new.stack) c.loop-place.buffer c.take_node.new.buffer
-    c.loop-place.proved.strings c.loop-place.proved.bytes c.in-Ok.end
-    c.loop-place.invariant.1 top c.loop-place.auto.buffer c.in-Ok.ensures.answer c.in-Ok.ensures.leaves in
-    omega (arith, turned.later, turned.so_far.within)
+    let asked = c.args.asked.now in
+    let top = taken (contents c.loop-place.waiting.stack) (contents c.pop.new.self.stack) c.in-Some.place c.in-Some.ensures.answer c.in-Some.ensures.after in
+    (goes_on_lem g.C.Chart.judging asked.question.now (nodes_of g.C.Chart.judging asked.counted.now) (stored_digests asked.counted.now) ((length asked.counted.now - 1) ∷ [])
+    (length c.args.buffer.now) c.in-Some.place (contents c.loop-place.waiting.stack) (contents c.pop.new.self.stack) (contents c.take_node.new.waiting.stack) c.loop-place.buffer c.take_node.new.buffer
+    c.loop-place.proved.strings c.loop-place.proved.bytes c.in_ok-proved.field-0
+    c.loop-place.invariant top c.loop-place.auto.buffer c.in_ok-proved.ensures.answer c.in_ok-proved.ensures.leaves).so_far
 
 pub returns : goal.returns
 returns g c =
-    let judging = g.C.Chart.judging in
-    let inv = c.loop-place.invariant.1 in
-    let top = none_left (contents c.loop-place.stack) c.in_default.ensures.answer in
-    let whole = ends judging c.args.question.now (nodes_in judging c.args.sheet.now c.args.count) (digests_on c.args.sheet.now c.args.count) ((c.args.count - 1) ∷ [])
-    (length c.args.buffer.now) (contents c.loop-place.stack) c.loop-place.buffer c.loop-place.proved.strings c.loop-place.proved.bytes inv top in
+    let asked = c.args.asked.now in
+    let inv = c.loop-place.invariant in
+    let top = none_left (contents c.loop-place.waiting.stack) c.in_default.ensures.answer in
+    let whole = ends g.C.Chart.judging asked.question.now (nodes_of g.C.Chart.judging asked.counted.now) (stored_digests asked.counted.now) ((length asked.counted.now - 1) ∷ [])
+    (length c.args.buffer.now) (contents c.loop-place.waiting.stack) c.loop-place.buffer c.loop-place.proved.strings c.loop-place.proved.bytes inv top in
     record {
       answer = ap Ok (λ i. record { strings = inv.counted i; bytes = inv.summed i }) ∙ sym (ap (map_ok summed) whole);
       stands = λ strings is.
@@ -55,15 +39,17 @@ returns g c =
           (subst (λ n. take n c.loop-place.buffer ≡ all_bytes inv.done) inv.summed inv.stands);
     }
 
-pub returns-in-Err : goal.returns-in-Err
-returns-in-Err g c =
-    let judging = g.C.Chart.judging in
-    let top = taken (contents c.loop-place.stack) (contents c.pop.new.self) c.in-Some.place c.in-Some.ensures.answer c.in-Some.ensures.after in
-    let whole = turned_off judging c.args.question.now (nodes_in judging c.args.sheet.now c.args.count) (digests_on c.args.sheet.now c.args.count) ((c.args.count - 1) ∷ [])
-    (length c.args.buffer.now) c.in-Some.place (contents c.loop-place.stack) (contents c.pop.new.self) c.loop-place.buffer
-    c.loop-place.proved.strings c.loop-place.proved.bytes c.in-Err.refusal
-    c.loop-place.invariant.1 top c.loop-place.auto.buffer c.in-Err.ensures.answer in
+pub returns-in_err-proved : goal.returns-in_err-proved
+returns-in_err-proved g c =
+    let asked = c.args.asked.now in
+    let top = taken (contents c.loop-place.waiting.stack) (contents c.pop.new.self.stack) c.in-Some.place c.in-Some.ensures.answer c.in-Some.ensures.after in
+    let e = c.in_err-proved.field-0.0 in
+    let q = err_from_is_err_and c.from_residual.result c.from_residual.ensures.1 in
+    let whole = turned_off g.C.Chart.judging asked.question.now (nodes_of g.C.Chart.judging asked.counted.now) (stored_digests asked.counted.now) ((length asked.counted.now - 1) ∷ [])
+    (length c.args.buffer.now) c.in-Some.place (contents c.loop-place.waiting.stack) (contents c.pop.new.self.stack) c.loop-place.buffer
+    c.loop-place.proved.strings c.loop-place.proved.bytes e
+    c.loop-place.invariant top c.loop-place.auto.buffer c.in_err-proved.ensures.answer in
     record {
-      answer = sym (ap (map_ok summed) whole);
-      stands = λ strings is. absurd (ok_not_err strings c.in-Err.refusal (sym is ∙ whole));
+      answer = q.1 ∙ ap Err q.2 ∙ sym (ap (map_ok summed) whole);
+      stands = λ strings is. absurd (not_ok e strings (sym whole ∙ is));
     }

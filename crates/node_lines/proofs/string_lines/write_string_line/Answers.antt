@@ -1,9 +1,8 @@
-use Rattle.std.proofs.Common.{◌∙◌}
-use Rattle.reader.specs.Views.{seen_in}
-use Rattle.script.proofs.Growing.{appended}
-use Rattle.node_lines.specs.StringLines.{line_of_string}
+use Rattle.std.proofs.Common.{rules}
+use Rattle.node_lines.specs.StringLines.{line_of_parts}
 use Rattle.node_lines.proofs.string_lines.write_string_line.Goals as goal
 
 pub returns : goal.returns
 returns c =
-    appended c.args.out.now c.append_string-written.new.out c.finish_line.new.out (line_of_string (seen_in c.args.view.now)) c.len-start.result c.append_string-written.result c.finish_line.result (c.len-start.ensures ∙ c.args.out.now.ok.0) c.append_string-written.ensures c.finish_line.ensures
+    let line = c.write_line.ensures (line_of_parts c.begins-place.result c.kind-kind.result c.number_bytes-numbers.result.now c.successor_bytes-successors.result.now) (λ r after left. search rules) in
+    rw (← c.begins-place.ensures, ← c.kind-kind.ensures, ← c.number_bytes-numbers.ensures, ← c.successor_bytes-successors.ensures) line

@@ -11,13 +11,13 @@ loop-place-init g c = refl
 
 pub unreachable-requires : goal.unreachable-requires
 unreachable-requires g c =
-    never_refused g.C.Chart.judging g.H.Hash.digest c.args.sheet.now c.args.count c.requires.within c.loop-place.place c.loop-place-test.true c.requires.figure blank c.loop-place.sheet c.loop-place.invariant c.in-Err.field-0 c.in-Err.ensures
+    never_refused g.C.Chart.judging g.H.Hash.digest c.args.counted.now c.loop-place.place c.loop-place-test.true c.requires blank c.loop-place.counted c.loop-place.invariant c.in_default.field-0 c.in_default.ensures
 
 pub loop-place-preserved : goal.loop-place-preserved
 loop-place-preserved g c =
-    next g.C.Chart.judging g.H.Hash.digest c.args.sheet.now c.args.count c.requires.within c.loop-place.place c.loop-place-test.true c.requires.figure blank c.loop-place.sheet c.loop-place.invariant _ c.in-Ok.digest c.with_digest.result c.in-Ok.ensures c.with_digest.ensures
+    next g.C.Chart.judging g.H.Hash.digest c.args.counted.now c.loop-place.place c.loop-place-test.true c.requires blank c.loop-place.counted c.loop-place.invariant _ c.in-Ok.digest c.in-Ok.ensures
 
 pub returns : goal.returns
 returns g c =
     c.loop-place.invariant
-    ∙ all_stored g.C.Chart.judging g.H.Hash.digest c.args.sheet.now c.args.count c.requires.within c.loop-place.place c.loop-place.auto.place-end c.loop-place-test.false
+    ∙ all_stored g.C.Chart.judging g.H.Hash.digest c.args.counted.now c.loop-place.place c.loop-place-test.false

@@ -1,10 +1,7 @@
-use Rattle.std.proofs.Common.{◌≡◌, ◌++◌, take, drop}
-use Rattle.calls.specs.Publishing.{with_digests}
-use Rattle.calls.specs.Sheets.{nodes_in}
-use Rattle.search.specs.Honest.{digests_of}
+use Rattle.std.proofs.Common.{◌≡◌}
+use Rattle.office.proofs.Stored.{stored_up_to}
 use Rattle.office.proofs.digests.store_digests.Given as goal
 
 -- The records before the place have the digests of their nodes, and the others are as they were.
 abbrev pub invariant-loop-place : goal.invariant-loop-place
-invariant-loop-place g l =
-    l.sheet ≡ with_digests (take l.place l.initial.sheet) (digests_of g.H.Hash.digest (take l.place (nodes_in g.C.Chart.judging l.initial.sheet l.count))) ++ drop l.place l.initial.sheet
+invariant-loop-place g l = l.counted ≡ stored_up_to g.C.Chart.judging g.H.Hash.digest l.initial.counted l.place

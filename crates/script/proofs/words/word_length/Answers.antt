@@ -1,36 +1,19 @@
-use Rattle.std.proofs.Common.{drop, sym, inl, inr, arith}
-use Rattle.script.proofs.Pieces.{Ends, word_more, word_ends, no_word, ends_at, ends_past}
+use Rattle.std.proofs.Common.{◌≡◌, rules, ◌∷◌, take, drop, not, sym, ap, ◌∙◌, arith}
+use Rattle.std.proofs.lemmas.Iterator.{YieldsList-from_slice}
+use Rattle.std.proofs.lemmas.Iterator.Search.{position_from_yields_List}
+use Rattle.std.proofs.lemmas.List.Sums.{prefix_len-le-length}
+use borrow.Author.Tests.{tests}
+use Rattle.script.specs.Words.{words_of}
+use Rattle.script.proofs.Pieces.{ends_word, first_word, found_or_len, no_word, word_end}
 use Rattle.script.proofs.words.word_length.Goals as goal
 
-pub loop-at-preserved : goal.loop-at-preserved
-loop-at-preserved c = (
-  omega arith,
-  word_more c.args.line.now c.loop-at.at (omega arith) (sym c.if-not-is_separator.ensures) (sym c.if-not-begins_comment.ensures) c.loop-at.invariant.1,
-)
-
-pub returns-else-not-begins_comment : goal.returns-else-not-begins_comment
-returns-else-not-begins_comment c =
-    let ends : Ends (drop c.loop-at.at c.args.line.now) = ends_at c.args.line.now c.loop-at.at (omega arith) (inr (sym c.if-not-begins_comment.ensures)) in
+pub returns : goal.returns
+returns c =
+    let line = c.args.line.now in
+    let found = position_from_yields_List ends_word _ _ c.position.result c.position.ensures.ran (YieldsList-from_slice line c.iter.ensures.rest) (λ y b q k. search (rules, tests)) in
+    let end : c.unwrap_or.result ≡ word_end line = c.unwrap_or.ensures ∙ found_or_len ends_word line c.position.result found in
     record {
-      within = c.loop-at.invariant.0;
-      none = λ e. no_word c.args.line.now c.loop-at.at e c.requires ends;
-      some = λ h. word_ends c.args.line.now c.loop-at.at c.loop-at.invariant.0 h c.loop-at.invariant.1 ends;
-    }
-
-pub returns-else-not-is_separator : goal.returns-else-not-is_separator
-returns-else-not-is_separator c =
-    let ends : Ends (drop c.loop-at.at c.args.line.now) = ends_at c.args.line.now c.loop-at.at (omega arith) (inl (sym c.if-not-is_separator.ensures)) in
-    record {
-      within = c.loop-at.invariant.0;
-      none = λ e. no_word c.args.line.now c.loop-at.at e c.requires ends;
-      some = λ h. word_ends c.args.line.now c.loop-at.at c.loop-at.invariant.0 h c.loop-at.invariant.1 ends;
-    }
-
-pub returns-after-loop-at : goal.returns-after-loop-at
-returns-after-loop-at c =
-    let ends : Ends (drop c.loop-at.at c.args.line.now) = ends_past c.args.line.now c.loop-at.at (omega arith) in
-    record {
-      within = c.loop-at.invariant.0;
-      none = λ e. no_word c.args.line.now c.loop-at.at e c.requires ends;
-      some = λ h. word_ends c.args.line.now c.loop-at.at c.loop-at.invariant.0 h c.loop-at.invariant.1 ends;
+      within = omega (arith, end, prefix_len-le-length (λ b. not (ends_word b)) line);
+      none = λ e. no_word line (sym end ∙ e) c.requires;
+      some = λ h. first_word line (omega (arith, end)) ∙ ap (λ n. take n line ∷ words_of (drop n line)) (sym end);
     }

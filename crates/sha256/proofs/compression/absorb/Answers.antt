@@ -18,16 +18,14 @@ loop-quarter-preserved c =
     elim c.if-quarter-gt0.branch [
       | then-quarter-gt0 w ↦
           (let next : 16 * (q - 1) + 16 ≡ 16 * q = omega arith in
-          w.w-is ∙ w.next_sixteen-next.ensures c.args.block.now (16 * (q - 1)) (omega arith) c.loop-quarter.invariant.1 ∙
+          w.w-is ∙ w.next_sixteen.ensures c.args.block.now (16 * (q - 1)) (omega arith) c.loop-quarter.invariant.1 ∙
           ap (window ws) next)
       | else-quarter-gt0 w ↦
           (let start : 16 * (q - 1) ≡ 16 * q = omega arith in
           w.w-is ∙ c.loop-quarter.invariant.1 ∙ ap (window ws) start)
     ] in
     let more : 16 * q + 16 ≡ 16 * (q + 1) = omega arith in
-    let half = c.first_eight_rounds-half.ensures h ws c.loop-quarter.invariant.0 w-is in
-    let whole = c.last_eight_rounds-whole.ensures h ws half w-is in
-    (whole ∙ ap (rounds h ws) more, w-is ∙ ap (window ws) (sym here))
+    (c.sixteen_rounds-v.ensures h ws c.loop-quarter.invariant.0 w-is ∙ ap (rounds h ws) more, w-is ∙ ap (window ws) (sym here))
 
 pub returns : goal.returns
 unfolding compress

@@ -1,27 +1,26 @@
-use Rattle.std.proofs.Common.{◌+◌, ap, arith}
-use Rattle.sha256.specs.declared.window.Window.{Window}
-use Rattle.sha256.proofs.ScheduleWords.{expanded_is, same_window}
+use Rattle.std.proofs.Common.{ℕ, ◌+◌, List, get_or, ap, arith}
+use Rattle.sha256.proofs.ScheduleWords.{expanded_is}
 use Rattle.sha256.proofs.schedule.next_sixteen.Goals as goal
 
 pub returns : goal.returns
 returns c =
     λ block t within before.
-    let own0 = ap (λ (x : Window). x.w0) before in
-    let own1 = ap (λ (x : Window). x.w1) before in
-    let own2 = ap (λ (x : Window). x.w2) before in
-    let own3 = ap (λ (x : Window). x.w3) before in
-    let own4 = ap (λ (x : Window). x.w4) before in
-    let own5 = ap (λ (x : Window). x.w5) before in
-    let own6 = ap (λ (x : Window). x.w6) before in
-    let own7 = ap (λ (x : Window). x.w7) before in
-    let own8 = ap (λ (x : Window). x.w8) before in
-    let own9 = ap (λ (x : Window). x.w9) before in
-    let own10 = ap (λ (x : Window). x.w10) before in
-    let own11 = ap (λ (x : Window). x.w11) before in
-    let own12 = ap (λ (x : Window). x.w12) before in
-    let own13 = ap (λ (x : Window). x.w13) before in
-    let own14 = ap (λ (x : Window). x.w14) before in
-    let own15 = ap (λ (x : Window). x.w15) before in
+    let own0 = ap (λ (xs : List ℕ). get_or xs 0 0) before in
+    let own1 = ap (λ (xs : List ℕ). get_or xs 1 0) before in
+    let own2 = ap (λ (xs : List ℕ). get_or xs 2 0) before in
+    let own3 = ap (λ (xs : List ℕ). get_or xs 3 0) before in
+    let own4 = ap (λ (xs : List ℕ). get_or xs 4 0) before in
+    let own5 = ap (λ (xs : List ℕ). get_or xs 5 0) before in
+    let own6 = ap (λ (xs : List ℕ). get_or xs 6 0) before in
+    let own7 = ap (λ (xs : List ℕ). get_or xs 7 0) before in
+    let own8 = ap (λ (xs : List ℕ). get_or xs 8 0) before in
+    let own9 = ap (λ (xs : List ℕ). get_or xs 9 0) before in
+    let own10 = ap (λ (xs : List ℕ). get_or xs 10 0) before in
+    let own11 = ap (λ (xs : List ℕ). get_or xs 11 0) before in
+    let own12 = ap (λ (xs : List ℕ). get_or xs 12 0) before in
+    let own13 = ap (λ (xs : List ℕ). get_or xs 13 0) before in
+    let own14 = ap (λ (xs : List ℕ). get_or xs 14 0) before in
+    let own15 = ap (λ (xs : List ℕ). get_or xs 15 0) before in
     let e0 =
     expanded_is block (t + 16) (t + 14) (t + 9) (t + 1) t _ _ _ _ _ (omega arith) (omega arith) (omega arith) (omega arith) (omega arith) own14 own9 own1 own0 c.expanded-x0.ensures in
     let e1 =
@@ -54,4 +53,4 @@ returns c =
     expanded_is block (t + 16 + 14) (t + 16 + 12) (t + 16 + 7) (t + 15) (t + 14) _ _ _ _ _ (omega arith) (omega arith) (omega arith) (omega arith) (omega arith) e12 e7 own15 own14 c.expanded-x14.ensures in
     let e15 =
     expanded_is block (t + 16 + 15) (t + 16 + 13) (t + 16 + 8) (t + 16) (t + 15) _ _ _ _ _ (omega arith) (omega arith) (omega arith) (omega arith) (omega arith) e13 e8 e0 own15 c.expanded-x15.ensures in
-    same_window e0 e1 e2 e3 e4 e5 e6 e7 e8 e9 e10 e11 e12 e13 e14 e15
+    cc

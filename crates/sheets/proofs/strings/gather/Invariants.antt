@@ -1,5 +1,5 @@
 use Rattle.std.proofs.Common.{◌≡◌, ◌≤◌, take}
-use Rattle.calls.specs.Sheets.{digests_on}
+use Rattle.calls.specs.Sheets.{stored_digests}
 use Rattle.std.specs.List.{AllByRecursion}
 use Rattle.node.specs.Sizes.{IsDigest}
 use Rattle.search.specs.Picks.{picks}
@@ -8,6 +8,8 @@ use Rattle.sheets.proofs.strings.gather.Given as goal
 -- Of the places looked at so far, the digests found are stored from the first on.
 abbrev pub invariant-loop-place : goal.invariant-loop-place
 invariant-loop-place l =
-    (l.found ≤ l.place-index)
-    × AllByRecursion IsDigest (picks (digests_on l.sheet l.count) (take l.place-index l.places))
-    × (take l.found l.digests ≡ picks (digests_on l.sheet l.count) (take l.place-index l.places))
+    record {
+      few : l.found ≤ l.place-index;
+      whole : AllByRecursion IsDigest (picks (stored_digests l.counted) (take l.place-index l.places));
+      stored : take l.found l.room ≡ picks (stored_digests l.counted) (take l.place-index l.places);
+    }

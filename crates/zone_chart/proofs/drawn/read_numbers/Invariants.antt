@@ -5,5 +5,5 @@ use Rattle.geometry.specs.Held.{raw_of}
 use Rattle.zone_chart.proofs.drawn.read_numbers.Given as goal
 
 -- Those before are edges.
-abbrev pub invariant-loop-i : goal.invariant-loop-i
-invariant-loop-i l = AllByRecursion (λ r. is_edge r ≡ true) (map raw_of (take l.i l.edges))
+abbrev pub invariant-loop-edge : goal.invariant-loop-edge
+invariant-loop-edge l = AllByRecursion (λ r. is_edge r ≡ true) (map raw_of (take l.edge-index l.edges))

@@ -11,20 +11,20 @@ product a b c d r s is-r is-s = reads_product (given is-r (offset_reads a b) tt)
 
 pub overflow_mul-rise : goal.overflow_mul-rise
 overflow_mul-rise c =
-    fits (product c.args.x1 c.args.x2 c.args.y1 c.args.y _ _ c.offset.ensures c.offset-2.ensures) tt
+    fits (product c.args.left.x c.args.right.x c.args.left.y c.args.point.y _ _ c.sub.ensures c.sub-2.ensures) tt
 
 pub overflow_mul-climb : goal.overflow_mul-climb
 overflow_mul-climb c =
-    fits (product c.args.y1 c.args.y2 c.args.x1 c.args.x _ _ c.offset-3.ensures c.offset-4.ensures) tt
+    fits (product c.args.left.y c.args.right.y c.args.left.x c.args.point.x _ _ c.sub-3.ensures c.sub-4.ensures) tt
 
 pub overflow_sub-result : goal.overflow_sub-result
 overflow_sub-result c =
-    let rise = product c.args.x1 c.args.x2 c.args.y1 c.args.y _ _ c.offset.ensures c.offset-2.ensures in
-    let climb = product c.args.y1 c.args.y2 c.args.x1 c.args.x _ _ c.offset-3.ensures c.offset-4.ensures in
+    let rise = product c.args.left.x c.args.right.x c.args.left.y c.args.point.y _ _ c.sub.ensures c.sub-2.ensures in
+    let climb = product c.args.left.y c.args.right.y c.args.left.x c.args.point.x _ _ c.sub-3.ensures c.sub-4.ensures in
     fits (reads_difference (stored rise tt) (stored climb tt)) tt
 
 pub returns : goal.returns
 returns c =
-    let rise = product c.args.x1 c.args.x2 c.args.y1 c.args.y _ _ c.offset.ensures c.offset-2.ensures in
-    let climb = product c.args.y1 c.args.y2 c.args.x1 c.args.x _ _ c.offset-3.ensures c.offset-4.ensures in
+    let rise = product c.args.left.x c.args.right.x c.args.left.y c.args.point.y _ _ c.sub.ensures c.sub-2.ensures in
+    let climb = product c.args.left.y c.args.right.y c.args.left.x c.args.point.x _ _ c.sub-3.ensures c.sub-4.ensures in
     ap (le_z (pos 0)) (stored (reads_difference (stored rise tt) (stored climb tt)) tt).is

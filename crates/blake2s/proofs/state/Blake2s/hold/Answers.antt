@@ -14,7 +14,7 @@ returns c =
       taken =
           λ bytes before.
           let here : c.count_pending-held.result ≡ length bytes - 64 * ((length bytes - 1) / 64) =
-          c.count_pending-held.ensures ∙ ap (λ (n : ℕ). n - 64 * ((n - 1) / 64)) before.counted in
+          c.count_pending-held.ensures ∙ ap (λ (n : ℕ). n - 64 * ((n - 1) / 64)) (c.from.ensures ∙ before.counted) in
           let room : length bytes - 64 * ((length bytes - 1) / 64) + length few ≤ 64 =
           omega (arith, here, c.count_pending-held.ensures, c.requires.0) in
           held_more s _ bytes few before room long refl

@@ -21,7 +21,7 @@ returns c =
     λ bytes before.
     rest_more c.args.self.now _ bytes rest tail _ before (omega (arith, c.requires.1.0))
     (λ message k counted begun rest-is.
-    c.absorb_blocks.ensures message k counted begun
+    c.absorb_blocks.ensures message k (c.from-taken.ensures ∙ counted) begun
     (are ∙ ap (λ (i : ℕ). first_chunks 64 i rest) (sym many) ∙ ap (first_chunks 64 (length blocks)) rest-is) ∙
     ap (λ (i : ℕ). after message (k + i)) many)
     (c.split_at.ensures.back ∙ ap (λ (i : ℕ). drop i rest) cut)

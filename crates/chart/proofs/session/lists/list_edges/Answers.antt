@@ -1,22 +1,13 @@
-use Rattle.std.proofs.Common.{◌<◌, ◌≤◌, length, vec_items, ap, ◌∙◌, arith}
+use Rattle.std.proofs.Common.{vec_items}
 use Rattle.zones.specs.Register.{held}
 use Rattle.script.specs.Lines.{ended, line_of_edge}
-use Rattle.chart.proofs.Printing.{listed_more, listed_all, not_missing}
+use Rattle.chart.proofs.Printing.{next_listed, whole_listed}
 use Rattle.chart.proofs.session.lists.list_edges.Goals as goal
-use Rattle.chart.proofs.session.lists.list_edges.Goals.{in-Some+in_ok-write_reply, in_default}
 
-pub loop-place-preserved : goal.loop-place-preserved
-loop-place-preserved c =
-    let rs = held c.args.register.now in
-    let i = c.loop-place.place in
-    let below : i < length rs = omega (arith, c.len-place-end.ensures, c.loop-place-test.true) in
-    elim c.match-record.branch [
-      | in-Some+in_ok-write_reply w ↦ listed_more (λ r. ended (line_of_edge r)) rs i w.in-Some.edge (vec_items c.args.out.now) (vec_items c.loop-place.out) (vec_items c.match-record.out) w.in-Some.ensures c.loop-place.invariant (ap vec_items w.out-is ∙ w.in_ok-write_reply.ensures.items)
-      | in_default w ↦ absurd (not_missing rs i below w.in_default.ensures)
-    ]
+pub loop-edge-preserved : goal.loop-edge-preserved
+loop-edge-preserved c =
+    next_listed _ (λ r. ended (line_of_edge r)) c.edges-edge-items.result.now (held c.args.register.now) c.loop-edge.edge-index c.edge-item.result c.raw.result (vec_items c.args.out.now) (vec_items c.loop-edge.out) _ c.edges-edge-items.ensures.held c.loop-edge-test.true c.edge-item.is c.raw.ensures c.loop-edge.invariant c.in_ok-write_reply.ensures.items
 
 pub returns : goal.returns
 returns c =
-    let rs = held c.args.register.now in
-    let past : length rs ≤ c.loop-place.place = omega (arith, c.len-place-end.ensures, c.loop-place-test.false) in
-    listed_all (λ r. ended (line_of_edge r)) rs c.loop-place.place (vec_items c.args.out.now) (vec_items c.loop-place.out) past c.loop-place.invariant
+    whole_listed _ (λ r. ended (line_of_edge r)) c.edges-edge-items.result.now (held c.args.register.now) c.loop-edge.edge-index (vec_items c.args.out.now) (vec_items c.loop-edge.out) c.edges-edge-items.ensures.held c.loop-edge-test.false c.loop-edge.invariant

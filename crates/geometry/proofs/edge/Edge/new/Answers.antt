@@ -1,7 +1,9 @@
-use Rattle.std.proofs.Common.{pos, None, refl, ◌∙◌, w64, SFits, rules}
+use Rattle.std.proofs.Common.{ℤ, sym, ap, pos, None, refl, ◌∙◌, w64, SFits, rules}
 use Rattle.std.proofs.lemmas.Bool.{both_ways}
 use Rattle.records.specs.Range.{is_coordinate, is_record_number, is_zone}
-use Rattle.geometry.proofs.Accepted.{kept, dropped, refused, accepted, ends_stand, ends_fail, below_test, same_record}
+use Rattle.geometry.proofs.Accepted.{kept, dropped, refused, accepted, below_test, same_record}
+use lib.Signed.{lt_z}
+use Rattle.geometry.proofs.Comparing.{below, not_below}
 use Rattle.geometry.proofs.edge.Edge.new.Goals as goal
 
 pub returns-in_err-x1 : goal.returns-in_err-x1
@@ -29,17 +31,16 @@ returns-in_err-zone c =
     let fits : SFits w64 c.args.raw.zone = search rules in
     refused c.args.raw c.from_residual-in_err-zone.result c.from_residual-in_err-zone.ensures (λ p. both_ways _ (dropped is_zone c.args.raw.zone fits c.in_err-zone.ensures) p.zone)
 
-pub returns-then-value : goal.returns-then-value
-returns-then-value c =
+pub returns-then-ge : goal.returns-then-ge
+returns-then-ge c =
     let fits-x1 : SFits w64 c.args.raw.x1 = search rules in
     let x1 = kept is_coordinate c.args.raw.x1 c.in_ok-x1.x1.value fits-x1 c.in_ok-x1.ensures in
     let fits-x2 : SFits w64 c.args.raw.x2 = search rules in
     let x2 = kept is_coordinate c.args.raw.x2 c.in_ok-x2.x2.value fits-x2 c.in_ok-x2.ensures in
-    refused c.args.raw None refl (λ p. ends_fail c.args.raw.x1 c.args.raw.x2 c.value.result c.value-2.result (record { sfits = c.value.type_inv }) (record { sfits = c.value-2.type_inv }) (c.value.ensures ∙ x1.1) (c.value-2.ensures ∙ x2.1) c.if-value.true p.wide)
+    refused c.args.raw None refl (λ p. not_below c.in_ok-x1.x1.value c.in_ok-x2.x2.value (sym c.ge.ensures ∙ c.if-ge.true) (ap (λ (z : ℤ). lt_z z c.in_ok-x2.x2.value) x1.1 ∙ ap (lt_z c.args.raw.x1) x2.1 ∙ p.wide))
 
 pub invariant_of-result : goal.invariant_of-result
-invariant_of-result c =
-    record { west_to_east = ends_stand c.in_ok-x1.x1.value c.in_ok-x2.x2.value c.value.result c.value-2.result (record { sfits = c.value.type_inv }) (record { sfits = c.value-2.type_inv }) c.value.ensures c.value-2.ensures c.if-value.false }
+invariant_of-result c = record { west_to_east = below c.in_ok-x1.x1.value c.in_ok-x2.x2.value (sym c.ge.ensures ∙ c.if-ge.false) }
 
 pub returns : goal.returns
 returns c =
@@ -55,6 +56,6 @@ returns c =
     let y2 = kept is_coordinate c.args.raw.y2 c.in_ok-y2.y2.value fits-y2 c.in_ok-y2.ensures in
     let fits-zone : SFits w64 c.args.raw.zone = search rules in
     let zone = kept is_zone c.args.raw.zone (pos c.in_ok-zone.zone) fits-zone c.in_ok-zone.ensures in
-    let wide = ends_stand c.args.raw.x1 c.args.raw.x2 c.value.result c.value-2.result (record { sfits = c.value.type_inv }) (record { sfits = c.value-2.type_inv }) (c.value.ensures ∙ x1.1) (c.value-2.ensures ∙ x2.1) c.if-value.false in
+    let wide = below c.in_ok-x1.x1.value c.in_ok-x2.x2.value (sym c.ge.ensures ∙ c.if-ge.false) in
     accepted c.args.raw _ (same_record number.1 x1.1 y1.1 x2.1 y2.1 zone.1)
-    (record { number = number.0; x1 = x1.0; y1 = y1.0; x2 = x2.0; y2 = y2.0; zone = zone.0; wide = below_test _ _ wide })
+    (record { number = number.0; x1 = x1.0; y1 = y1.0; x2 = x2.0; y2 = y2.0; zone = zone.0; wide = ap (λ (z : ℤ). lt_z z c.args.raw.x2) (sym x1.1) ∙ ap (lt_z c.in_ok-x1.x1.value) (sym x2.1) ∙ below_test _ _ wide })

@@ -23,6 +23,6 @@ returns c =
     let middle = c.take_blocks.ensures.taken (bytes ++ front) rest first enough are in
     let last = c.hold-3.ensures.taken ((bytes ++ front) ++ take (64 * length blocks) rest) middle in
     let whole =
-    rejoined bytes part front rest tail ((64 - c.args.self.now.size % 64) % 64) (64 * length blocks)
+    rejoined bytes part front rest tail ((64 - c.from-held.result % 64) % 64) (64 * length blocks)
     c.split_at.ensures.front c.split_at.ensures.back tail-is in
     subst (λ (xs : List ℕ). Taken c.hold-3.new.self xs) whole last

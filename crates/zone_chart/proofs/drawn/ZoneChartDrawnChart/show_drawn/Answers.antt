@@ -13,5 +13,5 @@ use Rattle.zone_chart.proofs.drawn.ZoneChartDrawnChart.show_drawn.Goals as goal
 pub returns : goal.returns
 returns c =
     let edges = held c.args.self.now.register in
-    let all = subst (AllByRecursion (λ r. is_edge r ≡ true)) c.edges.ensures c.read_numbers.ensures in
+    let all = subst (AllByRecursion (λ r. is_edge r ≡ true)) c.edges.ensures.held c.read_numbers.ensures in
     roses_make_figures zone_judging (zone_tree edges) (tree_is_fit edges (All-weaker (λ r. is_edge r ≡ true) Parts parts_of edges all))

@@ -1,16 +1,17 @@
-use Rattle.std.proofs.Common.{◌<◌, length, sym, arith}
+use Rattle.std.proofs.Common.{rules, ap, ◌∙◌}
+use Rattle.std.proofs.lemmas.Iterator.{YieldsList-from_slice}
+use Rattle.std.proofs.lemmas.Iterator.Search.{any_from_yields_List}
+use borrow.Author.Tests.{tests}
+use Rattle.geometry.specs.Conflict.{conflict}
 use Rattle.geometry.specs.Held.{raw_of}
-use Rattle.zones.proofs.Contents.{within}
-use Rattle.zones.proofs.Conflicts.{conflicts_found, conflicts_more}
+use Rattle.zones.specs.Edges.{conflicts_with_any}
+use Rattle.zones.proofs.Conflicts.{conflicts_any}
 use Rattle.zones.proofs.register.ZoneRegister.has_conflict.Goals as goal
 
-pub returns-then-conflicts_with : goal.returns-then-conflicts_with
-returns-then-conflicts_with c =
-    let r = c.args.self.now in
-    conflicts_found (raw_of c.args.edge.now) r.edges r.len c.loop-i.i c.index-self-i.result c.loop-i-test.true (within r) c.if-conflicts_with.ensures
-
-pub loop-i-preserved : goal.loop-i-preserved
-loop-i-preserved c =
-    let r = c.args.self.now in
-    let below : c.loop-i.i < length r.edges = omega (arith, within r, c.loop-i-test.true) in
-    conflicts_more (raw_of c.args.edge.now) r.edges c.loop-i.i c.index-self-i.result below (sym c.if-conflicts_with.ensures) c.loop-i.invariant
+pub returns : goal.returns
+returns c =
+    let e = raw_of c.args.edge.now in
+    let edges = c.edges.result.now in
+    any_from_yields_List (λ f. conflict e (raw_of f)) _ _ c.any.result c.any.ensures.ran (YieldsList-from_slice edges c.iter.ensures.rest) (λ f b q k. search (rules, tests))
+    ∙ conflicts_any e edges
+    ∙ ap (conflicts_with_any e) c.edges.ensures.held

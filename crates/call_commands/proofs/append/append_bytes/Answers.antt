@@ -1,9 +1,0 @@
-use Rattle.std.proofs.Common.{codes, refl}
-use Rattle.script.proofs.Growing.{grown_then, grown_stop}
-use Rattle.call_commands.proofs.append.append_bytes.Goals as goal
-
-pub returns-in_err-append_counted : goal.returns-in_err-append_counted
-returns-in_err-append_counted c = grown_stop c.from_residual.ensures.0 (codes " bytes") refl c.in_err-append_counted.ensures
-
-pub returns : goal.returns
-returns c = grown_then refl c.in_ok-append_counted.ensures c.append_text.ensures

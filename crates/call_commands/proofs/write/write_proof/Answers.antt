@@ -1,8 +1,0 @@
-use Rattle.std.proofs.Common.{◌∙◌}
-use Rattle.script.proofs.Growing.{appended}
-use Rattle.call_commands.specs.Lines.{line_of_proof}
-use Rattle.call_commands.proofs.write.write_proof.Goals as goal
-
-pub returns : goal.returns
-returns c =
-    appended c.args.out.now c.append_hex-written.new.out c.finish_line.new.out (line_of_proof c.args.proof.now) c.len-start.result c.append_hex-written.result c.finish_line.result (c.len-start.ensures ∙ c.args.out.now.ok.0) c.append_hex-written.ensures c.finish_line.ensures

@@ -1,9 +1,0 @@
-use Rattle.std.proofs.Common.{decimal, refl}
-use Rattle.script.proofs.Growing.{grown_stop, grown_then}
-use Rattle.node_lines.proofs.append.append_numbered.Goals as goal
-
-pub returns-in_err-append_text : goal.returns-in_err-append_text
-returns-in_err-append_text c = grown_stop c.from_residual.ensures.0 (decimal c.args.number) refl c.in_err-append_text.ensures
-
-pub returns : goal.returns
-returns c = grown_then refl c.in_ok-append_text.ensures c.append_digits.ensures

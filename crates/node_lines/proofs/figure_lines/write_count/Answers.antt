@@ -1,8 +1,0 @@
-use Rattle.std.proofs.Common.{◌∙◌}
-use Rattle.node_lines.specs.FigureLines.{line_of_count}
-use Rattle.script.proofs.Growing.{appended}
-use Rattle.node_lines.proofs.figure_lines.write_count.Goals as goal
-
-pub returns : goal.returns
-returns c =
-    appended c.args.out.now c.append_count-written.new.out c.finish_line.new.out (line_of_count c.args.count) c.len-start.result c.append_count-written.result c.finish_line.result (c.len-start.ensures ∙ c.args.out.now.ok.0) c.append_count-written.ensures c.finish_line.ensures
