@@ -5,4 +5,5 @@ pub mod Held
 pub mod Outcome
 pub mod Holdable
 pub mod Taking
+pub mod TakingFromSlice
 pub mod Removing

@@ -1,5 +1,5 @@
 -- The records that a register holds, in rising number.
-use Rattle.std.specs.Prelude.{◌≡◌, ℕ, suc, Bool, false, cond, ◌&&◌, ◌||◌, List, [], ◌∷◌, ℤ, Some, None, Option, int_le, int_lt}
+use Rattle.std.specs.Prelude.{◌≡◌, ℕ, suc, ◌-◌, Bool, false, cond, ◌&&◌, ◌||◌, List, [], ◌∷◌, ◌++◌, length, take, drop, ℤ, Some, None, Option, int_le, int_lt}
 use Rattle.refusal.specs.declared.Refusal.{Refusal}
 use Rattle.refusal.specs.declared.Refusal.TheVariants.{NumberNotHeld}
 use Rattle.slices.specs.Order.{placed}
@@ -28,6 +28,11 @@ put_in number_of r rs = placed (by_number number_of) r rs
 abbrev pub taken_out : {R : Type 0} → (R → ℤ) → ℤ → List R → List R
 taken_out number_of n [] = []
 taken_out number_of n (r ∷ rs) = cond (same_number (number_of r) n) rs (r ∷ taken_out number_of n rs)
+
+-- What taking that number out of the run of the first len elements leaves: from the run's new end on all is as it was.
+abbrev pub left_of : {R : Type 0} → (R → ℤ) → ℤ → ℕ → List R → List R
+left_of number_of n len kept =
+    taken_out number_of n (take len kept) ++ drop (length (take len kept) - 1) kept
 
 -- Remove is refused exactly when the number is not held.
 abbrev pub remove_refusal : {R : Type 0} → (R → ℤ) → List R → ℤ → Option Refusal

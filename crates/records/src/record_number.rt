@@ -1,5 +1,5 @@
 //! The number of a record. No value of this type is out of range.
-ghost use Rattle.std.specs.Prelude.{◌≡◌, ◌<◌, pos};
+ghost use Rattle.std.specs.Prelude.{◌≡◌, ◌<◌, ◌≤◌, pos};
 ghost use Rattle.std.specs.Option.{option_map};
 ghost use Rattle.records.specs.Range.{is_record_number, kept_by};
 
@@ -7,6 +7,7 @@ ghost use Rattle.records.specs.Range.{is_record_number, kept_by};
 pub struct RecordNumber {
     value: u16,
     ghost positive: { 0 < value },
+    ghost within: { value ≤ 65535 },
 }
 
 impl RecordNumber {

@@ -2,6 +2,7 @@ pub mod Magnitude
 pub mod Pieces
 pub mod Growing
 pub mod Fields
+pub mod Numbers
 pub mod Sentences
 pub mod Decimal
 pub mod ReadAgain

@@ -1,5 +1,5 @@
 -- Fields of a command, read from its words in order.
-use Rattle.std.specs.Prelude.{ℕ, List, [], ◌∷◌, ℤ, Some, None, Option}
+use Rattle.std.specs.Prelude.{ℕ, zero, suc, cond, List, [], ◌∷◌, is_some, ℤ, Some, None, Option}
 use Rattle.std.specs.Option.{option_map}
 use Rattle.records.specs.declared.raw.Point.{Point}
 use Rattle.records.specs.declared.raw.Rectangle.{Rectangle}
@@ -9,6 +9,12 @@ use Rattle.script.specs.Number.{and_then, number_of}
 abbrev pub first_number : List (List ℕ) → Option (ℤ × List (List ℕ))
 first_number [] = None
 first_number (word ∷ rest) = option_map (λ z. (z, rest)) (number_of word)
+
+-- The words after as many numbers, or after the first word that is no number.
+abbrev pub after_numbers : ℕ → List (List ℕ) → List (List ℕ)
+after_numbers zero words = words
+after_numbers (suc n) [] = []
+after_numbers (suc n) (word ∷ rest) = cond (is_some (number_of word)) (after_numbers n rest) rest
 
 -- A command that goes on with a number.
 abbrev pub with_number : {X : Type 0} → List (List ℕ) → (ℤ → List (List ℕ) → Option X) → Option X

@@ -1,7 +1,7 @@
 //! The words of a line, one after another, as parts of the line.
 ghost use Rattle.std.specs.Prelude.{◌≡◌, ◌<◌, ◌≤◌, false, [], ◌∷◌, length, take, drop, slice_index};
 ghost use Rattle.std.specs.Option.{option_map};
-ghost use Rattle.script.specs.Fields.{at_end, first_number, first_point, first_rectangle};
+ghost use Rattle.script.specs.Fields.{after_numbers, at_end, first_number, first_point, first_rectangle};
 ghost use Rattle.script.specs.Words.{before_words, begins_comment, is_separator, words_of};
 
 use crate::number::read_number;
@@ -44,30 +44,30 @@ impl<'a> Words<'a> {
         read_number(word)
     }
 
-    /// The next two words as a point.
+    /// The next two words as a point. A word that is no number is the last one read.
     pub fn point(&mut self) -> Option<Point>
         ensures value { option_map (λ p. (p, words_of self.new.rest.now)) result ≡ first_point (words_of self.old.rest.now) }
-        ensures rest { words_of self.new.rest.now ≡ drop 2 (words_of self.old.rest.now) }
+        ensures rest { words_of self.new.rest.now ≡ after_numbers 2 (words_of self.old.rest.now) }
     {
-        let x = self.number();
-        let y = self.number();
-        Some(Point { x: x?, y: y? })
+        let x = self.number()?;
+        let y = self.number()?;
+        Some(Point { x, y })
     }
 
-    /// The next four words as a rectangle.
+    /// The next four words as a rectangle. A word that is no number is the last one read.
     pub fn rectangle(&mut self) -> Option<Rectangle>
         ensures value { option_map (λ q. (q, words_of self.new.rest.now)) result ≡ first_rectangle (words_of self.old.rest.now) }
-        ensures rest { words_of self.new.rest.now ≡ drop 4 (words_of self.old.rest.now) }
+        ensures rest { words_of self.new.rest.now ≡ after_numbers 4 (words_of self.old.rest.now) }
     {
-        let west = self.number();
-        let east = self.number();
-        let south = self.number();
-        let north = self.number();
+        let west = self.number()?;
+        let east = self.number()?;
+        let south = self.number()?;
+        let north = self.number()?;
         Some(Rectangle {
-            west: west?,
-            east: east?,
-            south: south?,
-            north: north?,
+            west,
+            east,
+            south,
+            north,
         })
     }
 

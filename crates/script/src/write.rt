@@ -1,6 +1,6 @@
 //! Writing the line of a reply.
 ghost use Rattle.std.specs.Fn.{FnOnceReturnsAtMut};
-ghost use Rattle.script.specs.Growth.{Appended, Grown, Puts};
+ghost use Rattle.script.specs.Growth.{Appended, Closed, Finished, Grown, Puts};
 ghost use Rattle.script.specs.Lines.{ended, line_of, line_of_begun, line_of_edge, line_of_refusal, line_of_site, line_of_sites, line_of_unknown};
 
 use crate::append::{append_pair, append_sites, append_words};
@@ -52,16 +52,19 @@ fn append_reply(out: &mut Vec<u8>, reply: Reply) -> Result<(), AllocError>
     }
 }
 
-/// The text that a call appends, and the line's end after it.
-fn append_ended<F: FnOnce(&mut Vec<u8>) -> Result<(), AllocError>>(
+/// Ends a line that began at `start`, or takes it back where memory failed.
+pub fn finish_line(
     out: &mut Vec<u8>,
-    append: F,
+    start: usize,
+    written: Result<(), AllocError>,
 ) -> Result<(), AllocError>
-    requires { F.IsAlwaysCallable append }
-    ensures { (text : _) → Puts (FnOnceReturnsAtMut F.FnOnce append out.old) out.old text → Grown out.old (ended text) result out.new }
+    ensures { Finished out.old start written result out.new }
 {
-    append(out)?;
-    out.extend_from_slice(b"\n")
+    if written.is_ok() && out.extend_from_slice(b"\n").is_ok() {
+        return Ok(());
+    }
+    out.truncate(start);
+    Err(AllocError)
 }
 
 /// Puts the line whose text a call appends after what is written. Where memory fails, all of the
@@ -71,14 +74,12 @@ pub fn write_line<F: FnOnce(&mut Vec<u8>) -> Result<(), AllocError>>(
     append: F,
 ) -> Result<(), AllocError>
     requires { F.IsAlwaysCallable append }
-    ensures { (text : _) → Puts (FnOnceReturnsAtMut F.FnOnce append out.old) out.old text → Appended out.old (ended text) result out.new }
+    ensures line { (text : _) → Puts (FnOnceReturnsAtMut F.FnOnce append out.old) out.old text → Appended out.old (ended text) result out.new }
+    ensures whole { Closed (FnOnceReturnsAtMut F.FnOnce append out.old) out.old result out.new }
 {
     let start = out.len();
-    let written = append_ended(out, append);
-    if written.is_err() {
-        out.truncate(start);
-    }
-    written
+    let written = append(out);
+    finish_line(out, start, written)
 }
 
 /// Puts the line of a reply after what is written.

@@ -12,3 +12,4 @@ pub mod Visit
 pub mod Sheet
 pub mod Verdict
 pub mod Drafting
+pub mod DrawnNodes

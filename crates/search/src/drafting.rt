@@ -1,6 +1,7 @@
 //! Nodes drawn into the records of a sheet, each once.
 ghost use Rattle.std.specs.Prelude.{◌≡◌};
-ghost use Rattle.search.specs.Drafting.{alike_records, place_of_alike_record, drawn_in, DrawsRecord};
+ghost use Rattle.search.specs.Drafting.{alike_records, drafted_record, drawn_in, drawn_so_far, place_of_alike_record, sheet_with, DrawsRecord};
+ghost use Rattle.search.specs.DrawnNodes.{draft_answer};
 ghost use Rattle.search.specs.Sheet.{usable};
 
 use crate::sheet::SheetRecord;
@@ -49,7 +50,16 @@ impl<'a> Draft<'a> {
         Draft { sheet, len: 0 }
     }
 
-    /// How many records are drawn.
+    /// The first `len` records are drawn already, or as many as are usable.
+    pub fn going_on(sheet: &'a mut [SheetRecord], len: usize) -> Draft<'a>
+        ensures same_sheet { result.sheet.ghost_name ≡ sheet.entry.ghost_name }
+        ensures untouched { result.sheet.now ≡ sheet.old }
+        ensures begun { result.len ≡ len }
+    {
+        Draft { sheet, len }
+    }
+
+    /// How many records are drawn: at first as many as were named, and after a node as many as stand then.
     pub fn len(&self) -> usize
         ensures { result ≡ self.now.len }
     {
@@ -91,4 +101,25 @@ impl<'a> Draft<'a> {
         self.len += 1;
         Ok(run as u32)
     }
+}
+
+/// The place of a node, and how many records are drawn so far.
+#[derive(Clone, Copy)]
+pub struct Drawn {
+    pub place: u32,
+    pub len: usize,
+}
+
+/// Draws a node behind the first `len` records of a sheet and gives its place, unless it is drawn already and has a place.
+/// Refused when it is new and no usable record is left, and then all is as it was.
+pub fn draw_node(sheet: &mut [SheetRecord], len: usize, node: SheetRecord) -> Result<Drawn, Refusal>
+    ensures answer { result ≡ draft_answer sheet.old (drafted_record (drawn_so_far len sheet.old) node) }
+    ensures after { sheet.new ≡ sheet_with sheet.old (drafted_record (drawn_so_far len sheet.old) node).records }
+{
+    let mut draft = Draft::going_on(sheet, len);
+    let place = draft.draw(node)?;
+    Ok(Drawn {
+        place,
+        len: draft.len(),
+    })
 }

@@ -22,6 +22,7 @@ pub(crate) enum FitNode {
 }
 
 /// None where the numbers are not fit for a node of the kind.
+#[inline(always)]
 pub(crate) fn fit_node(kind: u32, numbers: &[i32]) -> Option<FitNode>
     ensures fit { is_some result ≡ is_fit_as (kind_numbered kind) numbers.now }
     ensures told { IfSome result (λ node. (kind_numbered kind ≡ Some (kind_of node)) × (numbers.now ≡ numbers_of node)) }

@@ -49,15 +49,21 @@ pub fn is_fit(kind: u32, numbers: &[i32]) -> bool
 }
 
 /// Judges a node by a rectangle: nothing for a rectangle out of bounds or unfit numbers.
+// This and what it calls are built into their callers: a walk judges at every step, and the bounds are the question's alone.
+#[inline(always)]
 pub fn judge(question: &Rectangle, kind: u32, numbers: &[i32]) -> Verdict
     ensures { judgement_of result ≡ judged site_judging question.now kind numbers.now }
 {
+    if !is_within_bounds(question) {
+        return Verdict::nothing();
+    }
     match fit_node(kind, numbers) {
-        Some(node) if is_within_bounds(question) => judge_fit(question, node),
-        _ => Verdict::nothing(),
+        Some(node) => judge_fit(question, node),
+        None => Verdict::nothing(),
     }
 }
 
+#[inline(always)]
 fn judge_fit(question: &Rectangle, node: FitNode) -> Verdict
     ensures { judgement_of result ≡ judge_as question.now (Some (kind_of node)) (numbers_of node) }
 {

@@ -1,11 +1,13 @@
 -- What every chart kind shows, of stones.
-use Rattle.std.specs.Prelude.{◌≡◌, ℕ, zero, suc, ◌<◌, ◌≤◌, Bool, true, false, not, List, [], ◌∷◌, length, ℤ, pos, negsuc, Some, None, int_le, refl}
+use Rattle.std.specs.Prelude.{◌≡◌, ℕ, zero, suc, ◌<◌, ◌≤◌, Bool, true, false, not, List, [], ◌∷◌, length, ℤ, pos, negsuc, Some, None, Option, int_le, refl}
 use Rattle.std.proofs.Common.{ap, subst, arith}
 use Rattle.std.specs.List.{AllByRecursion}
+use Rattle.std.proofs.lemmas.Int.{ints}
 use Rattle.std.proofs.lemmas.Bool.{and_parts, leb-true, not-false}
 use Rattle.refusal.specs.declared.Refusal.TheVariants.{FieldOutOfRange, NumberHeld}
 use Rattle.node.specs.declared.shape.Shape.{Shape}
 use Rattle.node.specs.Kinds.{shaped}
+use Rattle.records.specs.declared.record_number.RecordNumber.{RecordNumber}
 use Rattle.records.specs.Held.{holds}
 use Rattle.records.specs.Range.{is_record_number}
 use Rattle.records.proofs.Holdable.{holdable_all}
@@ -17,7 +19,8 @@ use Rattle.search.specs.Visit.{FitsWhole}
 use Rattle.search.proofs.Places.{not_both, some_same}
 use Rattle.search.proofs.Walking.{answers_by_rose, roses_make_figures}
 use Rattle.toy_chart.specs.declared.Stone.{Stone}
-use Rattle.toy_chart.specs.Stones.{number_of, add_refusal, shapes, is_stone, counted, judge_stone, judging, drawing, rose_of, answer_of}
+use Rattle.toy_chart.specs.declared.StoneChart.{StoneChart}
+use Rattle.toy_chart.specs.Stones.{listed, held, number_of, add_refusal, shapes, is_stone, counted, judge_stone, judging, drawing, rose_of, answer_of}
 
 few_numbers_lem : (kind : ℕ) (shape : Shape) → shapes kind ≡ Some shape → shape.numbers ≤ 4
 few_numbers_lem zero shape h = let e = ap (λ (s : Shape). s.numbers) (some_same (shaped 0 0) shape h) in omega (arith, e)
@@ -80,6 +83,17 @@ rose_fits (stone ∷ stones) h = (
     ((record { shape = shaped 1 0; judgeable = record { known = refl; counted = refl; fit = h.0 }; joined = refl }, tt), tt),
   ),
 )
+
+-- the number of a held stone is a record number
+pub number_fits : (n : RecordNumber) → is_record_number (pos n.value) ≡ true
+number_fits n = let low = n.positive in let high = n.within in grind (arith, ints)
+
+pub stone_fits : (stone : Option RecordNumber) → FitsWhole judging (rose_of (listed stone))
+stone_fits None = rose_fits [] tt
+stone_fits (Some number) = rose_fits (listed (Some number)) (number_fits number, tt)
+
+pub chart_fits : (chart : StoneChart) → FitsWhole judging (rose_of (held chart))
+chart_fits chart = stone_fits chart.stone
 
 held_numbers : (stones : List Stone) → CanBeHeld drawing stones → AllByRecursion (λ stone. is_record_number stone.number ≡ true) stones
 held_numbers stones h = holdable_all number_of add_refusal (λ stone. is_record_number stone.number ≡ true) adds_numbers stones h

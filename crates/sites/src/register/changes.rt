@@ -7,7 +7,7 @@ ghost use Rattle.sites.specs.Register.{held};
 
 use super::SiteRegister;
 use crate::site::Site;
-use records::numbered::{place_of, take_out};
+use records::numbered::{place_of, take_out_of_run};
 use records::raw::SiteRecord;
 use refusal::Refusal;
 
@@ -29,6 +29,6 @@ impl SiteRegister {
         ensures answer { result ≡ answered (remove_refusal number_of (held self.old) number) tt }
         ensures after { held self.new ≡ unless_refused (remove_refusal number_of (held self.old) number) (taken_out number_of number (held self.old)) (held self.old) }
     {
-        take_out(&mut self.sites, number)
+        take_out_of_run(&mut self.sites, number)
     }
 }

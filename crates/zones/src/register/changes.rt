@@ -8,7 +8,7 @@ ghost use Rattle.zones.specs.Register.{held};
 
 use super::ZoneRegister;
 use geometry::edge::Edge;
-use records::numbered::{place_of, take_out};
+use records::numbered::{place_of, take_out_of_run};
 use records::raw::EdgeRecord;
 use refusal::Refusal;
 
@@ -49,6 +49,6 @@ impl ZoneRegister {
         ensures answer { result ≡ answered (remove_refusal number_of (held self.old) number) tt }
         ensures after { held self.new ≡ unless_refused (remove_refusal number_of (held self.old) number) (taken_out number_of number (held self.old)) (held self.old) }
     {
-        take_out(&mut self.edges, number)
+        take_out_of_run(&mut self.edges, number)
     }
 }

@@ -21,5 +21,5 @@ returns-in-Err c =
     let p = position_of c.loop-reader.reader in
     let some = some_left p c.finish.result c.is_err.result c.finish.ensures c.is_err.ensures.value c.loop-reader-test.true in
     let last = lines_fault p c.in-Err.fault some c.in-Err.ensures.answer in
-    let line = c.write_line.ensures (line_of_fault c.place-place.result c.in-Err.fault) (λ r after left. search rules) in
+    let line = c.write_line.ensures.line (line_of_fault c.place-place.result c.in-Err.fault) (λ r after left. search rules) in
     grind (arith, common_steps)

@@ -18,9 +18,9 @@ returns c =
     let rs = held c.args.self.now in
     record {
       answer =
-          c.take_out.ensures.answer
+          c.take_out_of_run.ensures.answer
           ∙ ap (λ (o : Option Refusal). answered o (tt {0})) (refusal_read raw_of number_of n edges ∙ ap (remove_refusal number_of rs) same);
       after =
-          removal_read raw_of number_of n edges (elements c.take_out.new.kept) c.take_out.ensures.after
+          removal_read raw_of number_of n edges (elements c.take_out_of_run.new.kept) c.take_out_of_run.ensures.after
           ∙ ap (λ (m : ℤ). unless_refused (remove_refusal number_of rs m) (taken_out number_of m rs) rs) same;
     }
