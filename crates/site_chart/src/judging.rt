@@ -49,7 +49,7 @@ pub fn is_fit(kind: u32, numbers: &[i32]) -> bool
 }
 
 /// Judges a node by a rectangle: nothing for a rectangle out of bounds or unfit numbers.
-// This and what it calls are built into their callers: a walk judges at every step, and the bounds are the question's alone.
+// Built into its callers, as `fit_node` and `judge_fit` are: a walk judges at every step, and the bounds are the question's alone.
 #[inline(always)]
 pub fn judge(question: &Rectangle, kind: u32, numbers: &[i32]) -> Verdict
     ensures { judgement_of result ≡ judged site_judging question.now kind numbers.now }
